@@ -1,0 +1,4 @@
+pub mod Age
+pub mod Event
+pub mod Answer
+pub mod Limits

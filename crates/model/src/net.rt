@@ -1,0 +1,72 @@
+// The shape of a net and the limits of document 01. Each limit is stated here once; the tests below are its only users.
+ghost use mathlib.Core.Path.{_≡_};
+ghost use Rattle.model.specs.Limits.{shapeOf, sized?, timed?, logged?, held?};
+
+// How many places and transitions a net has, and how many columns its clock matrix.
+pub struct Net {
+    pub places: usize,
+    pub transitions: usize,
+    pub columns: usize,
+}
+
+impl Net {
+    pub const MAX_PLACES: usize = 64;
+
+    pub const MAX_TRANSITIONS: usize = 64;
+
+    pub const MAX_DURATION: usize = 63;
+
+    pub const MAX_EVENTS: usize = 24_000;
+
+    pub const MAX_TOKENS: usize = 65_535;
+
+    pub fn new(places: usize, transitions: usize, columns: usize) -> Self
+        ensures { λ r. ⌜ r ≡ shapeOf places transitions columns ⌝ }
+    {
+        Self {
+            places,
+            transitions,
+            columns,
+        }
+    }
+
+    // A net may have so many places and transitions.
+    pub fn sized(places: usize, transitions: usize) -> bool
+        ensures { λ r. ⌜ r ≡ sized? places transitions ⌝ }
+    {
+        if places < 1 {
+            return false;
+        }
+        if Net::MAX_PLACES < places {
+            return false;
+        }
+        if transitions < 1 {
+            return false;
+        }
+        transitions <= Net::MAX_TRANSITIONS
+    }
+
+    // A transition may have these shortest and longest durations.
+    pub fn timed(sfd: usize, lfd: usize) -> bool
+        ensures { λ r. ⌜ r ≡ timed? sfd lfd ⌝ }
+    {
+        if lfd < sfd {
+            return false;
+        }
+        lfd <= Net::MAX_DURATION
+    }
+
+    // A log may have so many events.
+    pub fn logged(events: usize) -> bool
+        ensures { λ r. ⌜ r ≡ logged? events ⌝ }
+    {
+        events <= Net::MAX_EVENTS
+    }
+
+    // A place, or a count, may hold so many.
+    pub fn held(tokens: usize) -> bool
+        ensures { λ r. ⌜ r ≡ held? tokens ⌝ }
+    {
+        tokens <= Net::MAX_TOKENS
+    }
+}
