@@ -2,3 +2,10 @@ pub mod Age
 pub mod Event
 pub mod Answer
 pub mod Limits
+pub mod Tab
+pub mod Net
+pub mod Moves
+pub mod Refusals
+pub mod Rules
+pub mod Run
+pub mod Owed

@@ -1,7 +1,7 @@
 -- The limits of document 01, each stated once, and the tests that use them.
 -- Assumes nothing.
 use mathlib.Core.Bool.{Bool, _&&_}
-use Prim.Native.Nat.{ℕ}
+use Prim.Native.Nat.{ℕ, _≤_}
 use lib.Dec.{leb}
 use Rattle.model.specs.declared.net.Net.{Net as Shape}
 
@@ -20,25 +20,33 @@ eventLimit = 24000
 abbrev pub tokenLimit : ℕ
 tokenLimit = 65535
 
--- a number is 1..limit
-abbrev pub within? : ℕ → ℕ → Bool
-within? limit n = leb 1 n && leb n limit
+-- number 2: P and T are 1..64
+abbrev pub Sized : ℕ → ℕ → Type 0
+Sized P T = ((1 ≤ P) × (P ≤ placeLimit)) × ((1 ≤ T) × (T ≤ transitionLimit))
 
--- number 2
 abbrev pub sized? : ℕ → ℕ → Bool
-sized? P T = within? placeLimit P && within? transitionLimit T
+sized? P T = (leb 1 P && leb P placeLimit) && (leb 1 T && leb T transitionLimit)
 
--- number 4
+-- number 4: lfd neither below sfd nor above 63
+abbrev pub Timed : ℕ → ℕ → Type 0
+Timed sfd lfd = (sfd ≤ lfd) × (lfd ≤ durationLimit)
+
 abbrev pub timed? : ℕ → ℕ → Bool
 timed? sfd lfd = leb sfd lfd && leb lfd durationLimit
 
--- number 10
+-- number 10: at most 24,000 events
+abbrev pub Logged : ℕ → Type 0
+Logged events = events ≤ eventLimit
+
 abbrev pub logged? : ℕ → Bool
 logged? events = leb events eventLimit
 
--- numbers 14 and 17
+-- numbers 14 and 17: a count or a place holds at most 65,535
+abbrev pub Held : ℕ → Type 0
+Held n = n ≤ tokenLimit
+
 abbrev pub held? : ℕ → Bool
-held? tokens = leb tokens tokenLimit
+held? n = leb n tokenLimit
 
 abbrev pub shapeOf : ℕ → ℕ → ℕ → Shape
-shapeOf P T D = record { places = P; transitions = T; columns = D }
+shapeOf P T D = record { places = P; transitions = T; width = D }

@@ -2,11 +2,11 @@
 ghost use mathlib.Core.Path.{_≡_};
 ghost use Rattle.model.specs.Limits.{shapeOf, sized?, timed?, logged?, held?};
 
-// How many places and transitions a net has, and how many columns its clock matrix.
+// How many places and transitions a net has, and how wide its clock matrix is.
 pub struct Net {
     pub places: usize,
     pub transitions: usize,
-    pub columns: usize,
+    pub width: usize,
 }
 
 impl Net {
@@ -20,13 +20,13 @@ impl Net {
 
     pub const MAX_TOKENS: usize = 65_535;
 
-    pub fn new(places: usize, transitions: usize, columns: usize) -> Self
-        ensures { λ r. ⌜ r ≡ shapeOf places transitions columns ⌝ }
+    pub fn new(places: usize, transitions: usize, width: usize) -> Self
+        ensures { λ r. ⌜ r ≡ shapeOf places transitions width ⌝ }
     {
         Self {
             places,
             transitions,
-            columns,
+            width,
         }
     }
 

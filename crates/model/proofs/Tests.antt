@@ -1,0 +1,125 @@
+-- What the tests of specs/ tell, and what an outcome behind tests comes to.
+-- Assumes nothing.
+use mathlib.Core.Path.{_≡_, refl}
+use mathlib.Core.Bool.{Bool, true, false, not}
+use mathlib.Core.Logic.{_↔_}
+use Prim.Native.Nat.{ℕ, suc, _+_, _*_, _<_, _≤_}
+use native.Mathlib.Omega.{arith}
+use lib.Dec.{leb, ltb, eqb, leb→le, le→leb, eqb→eq, eqb-refl}
+use Rattle.model.specs.declared.answer.Refusal.{Refusal}
+use Rattle.model.specs.Limits.{Sized, sized?, Timed, timed?, Logged, logged?, Held, held?, placeLimit, transitionLimit, durationLimit, eventLimit, tokenLimit}
+use Rattle.model.specs.Net.{Net, State, width, tokens, count}
+use Rattle.model.specs.Moves.{Enabled, NoStartOwed, NoEndOwed, NothingRunning, Timely, Fits}
+use Rattle.model.specs.Rules.{Outcome, done, refused, unless, enabled?, no-start-owed?, no-end-owed?, nothing-running?, timely?, fits?, Covers, covers?, NoneFresh, none-fresh?}
+use Rattle.model.proofs.Tab.{Tells, all-tells, both-tell}
+
+pub leb-tells : (m n : ℕ) → Tells (leb m n) (m ≤ n)
+leb-tells m n = record { sound = leb→le m n; complete = le→leb m n }
+
+pub ltb-tells : (m n : ℕ) → Tells (ltb m n) (m < n)
+ltb-tells m n = leb-tells (suc m) n
+
+pub eqb-tells : (m n : ℕ) → Tells (eqb m n) (m ≡ n)
+eqb-tells m n = record { sound = eqb→eq m n; complete = λ e. rw e (eqb-refl n) }
+
+pub not-tells : {b : Bool} {A : Type 0} → Tells b A → Tells (not b) (¬ A)
+not-tells {b = true} t = record { sound = λ x. absurd x; complete = λ f. f (t .sound tt) }
+not-tells {b = false} t = record { sound = λ _ a. t .complete a; complete = λ _. tt }
+
+-- THE LIMITS
+
+pub sized-tells : (P T : ℕ) → Tells (sized? P T) (Sized P T)
+sized-tells P T =
+    both-tell (both-tell (leb-tells 1 P) (leb-tells P placeLimit)) (both-tell (leb-tells 1 T) (leb-tells T transitionLimit))
+
+pub timed-tells : (sfd lfd : ℕ) → Tells (timed? sfd lfd) (Timed sfd lfd)
+timed-tells sfd lfd = both-tell (leb-tells sfd lfd) (leb-tells lfd durationLimit)
+
+pub logged-tells : (events : ℕ) → Tells (logged? events) (Logged events)
+logged-tells events = leb-tells events eventLimit
+
+pub held-tells : (n : ℕ) → Tells (held? n) (Held n)
+held-tells n = leb-tells n tokenLimit
+
+-- THE RULES
+
+pub timely-tells : (N : Net) (t j : ℕ) → Tells (timely? N t j) (Timely N t j)
+unfolding timely?
+timely-tells N t j = both-tell (leb-tells (N .sfd t) j) (leb-tells j (N .lfd t))
+
+module _ (N : Net) (S : State) where
+  pub enabled-tells : (t n : ℕ) → Tells (enabled? N S t n) (Enabled N S t n)
+  unfolding enabled?
+  enabled-tells t n = all-tells (N .places) (λ p. leb-tells (n * N .takes t p) (tokens S p))
+
+  pub no-start-owed-tells : Tells (no-start-owed? N S) (NoStartOwed N S)
+  unfolding no-start-owed?
+  no-start-owed-tells = all-tells (N .transitions) (λ t. not-tells (enabled-tells t 1))
+
+  pub no-end-owed-tells : Tells (no-end-owed? N S) (NoEndOwed N S)
+  unfolding no-end-owed?
+  no-end-owed-tells = all-tells (N .transitions) (λ t. eqb-tells (count S t (N .lfd t)) 0)
+
+  pub nothing-running-tells : Tells (nothing-running? N S) (NothingRunning N S)
+  unfolding nothing-running?
+  nothing-running-tells = all-tells (N .transitions) (λ t. all-tells (width N) (λ j. eqb-tells (count S t j) 0))
+
+  pub fits-tells : (more : ℕ → ℕ) → Tells (fits? N S more) (Fits N S more)
+  unfolding fits?
+  fits-tells more = all-tells (N .places) (λ p. held-tells (tokens S p + more p))
+
+  pub covers-tells : (fewer : ℕ → ℕ) → Tells (covers? N S fewer) (Covers N S fewer)
+  unfolding covers?
+  covers-tells fewer = all-tells (N .places) (λ p. leb-tells (fewer p) (tokens S p))
+
+  pub none-fresh-tells : Tells (none-fresh? N S) (NoneFresh N S)
+  unfolding none-fresh?
+  none-fresh-tells = all-tells (N .transitions) (λ t. eqb-tells (count S t 0) 0)
+
+-- WHAT A TEST TELLS IS DECIDED
+
+-- by a test, a thing holds or not
+pub decide : {b : Bool} {A C : Type 0} → Tells b A → (A → C) → (¬ A → C) → C
+decide {b = true} t holds fails = holds (t .sound tt)
+decide {b = false} t holds fails = fails (t .complete)
+
+pub stable : {b : Bool} {A : Type 0} → Tells b A → ¬ (¬ A) → A
+stable t f = decide t (λ a. a) (λ n. absurd (f n))
+
+pub told-true : {b : Bool} {A : Type 0} → Tells b A → A → b ≡ true
+told-true {b = true} t a = refl
+told-true {b = false} t a = absurd (t .complete a)
+
+pub told-false : {b : Bool} {A : Type 0} → Tells b A → ¬ A → b ≡ false
+told-false {b = true} t f = absurd (f (t .sound tt))
+told-false {b = false} t f = refl
+
+-- AN OUTCOME
+
+pub done-is : (S S′ : State) → (done S ≡ done S′) ↔ (S ≡ S′)
+done-is S S′ = ((λ e. cc), λ e. cc)
+
+pub never : {C : Type 0} {S : State} {why : Refusal} → done S ≡ refused why → C
+never e = let z : _≡_ {A = ℕ} 0 1 = cc in absurd (omega arith)
+
+-- AN OUTCOME BEHIND A TEST
+
+-- it is done where the test passes and the outcome is done
+pub unless-done : {b : Bool} {o : Outcome} {S : State} {A B : Type 0} (why : Refusal) → Tells b A → (o ≡ done S) ↔ B
+    → (unless b why o ≡ done S) ↔ (A × B)
+unless-done {b = true} why t r = ((λ e. (t .sound tt, r .0 e)), λ ab. r .1 (ab .1))
+unless-done {b = false} why t r = ((λ e. let z : _≡_ {A = ℕ} 0 1 = cc in absurd (omega arith)), λ ab. absurd (t .complete (ab .0)))
+
+pub past : {b : Bool} {A : Type 0} {o r : Outcome} (why : Refusal) → Tells b A → A → o ≡ r → unless b why o ≡ r
+past {b = true} why t a e = e
+past {b = false} why t a e = absurd (t .complete a)
+
+pub fails : {b : Bool} {A : Type 0} (why : Refusal) (o : Outcome) → Tells b A → ¬ A → unless b why o ≡ refused why
+fails {b = true} why o t f = absurd (f (t .sound tt))
+fails {b = false} why o t f = refl
+
+-- it is refused by the test, or behind it
+pub refusal-by : {b : Bool} {A C : Type 0} (why : Refusal) (o : Outcome) {told : Refusal} → Tells b A
+    → (¬ A → told ≡ why → C) → (A → o ≡ refused told → C) → unless b why o ≡ refused told → C
+refusal-by {b = true} why o t here behind e = behind (t .sound tt) e
+refusal-by {b = false} why o {told} t here behind e = here (t .complete) (cc)

@@ -1,0 +1,78 @@
+-- The rules of the events as relations between two states: Definitions 4 and 5 of document 004, with document 01's limits and
+-- the deadlock rule of Section 2.2.
+-- Assumes nothing.
+use mathlib.Core.Path.{_≡_}
+use Prim.Native.Nat.{ℕ, suc, _+_, _*_, _<_, _≤_}
+use Rattle.model.specs.declared.event.Event.{Event}
+use Rattle.model.specs.declared.event.Event.the-variants as event
+use Rattle.model.specs.Tab.{one}
+use Rattle.model.specs.Limits.{Held}
+use Rattle.model.specs.Net.{Net, State, Shaped, width, tokens, count}
+
+-- Definition 4: t is enabled n times
+abbrev pub Enabled : Net → State → ℕ → ℕ → Type 0
+Enabled N S t n = (p : ℕ) → p < N .places → n * N .takes t p ≤ tokens S p
+
+-- some place has too few tokens for t n times
+abbrev pub Lacking : Net → State → ℕ → ℕ → Type 0
+Lacking N S t n = (p : ℕ) × (p < N .places) × (tokens S p < n * N .takes t p)
+
+-- Definition 4: E_t(M), the degree of t, is n
+abbrev pub Degree : Net → State → ℕ → ℕ → Type 0
+Degree N S t n = Enabled N S t n × Lacking N S t (suc n)
+
+-- no transition is enabled
+abbrev pub NoStartOwed : Net → State → Type 0
+NoStartOwed N S = (t : ℕ) → t < N .transitions → ¬ Enabled N S t 1
+
+-- no count stands at its transition's lfd
+abbrev pub NoEndOwed : Net → State → Type 0
+NoEndOwed N S = (t : ℕ) → t < N .transitions → count S t (N .lfd t) ≡ 0
+
+-- the clock matrix is the zero matrix
+abbrev pub NothingRunning : Net → State → Type 0
+NothingRunning N S = (t : ℕ) → t < N .transitions → (j : ℕ) → j < width N → count S t j ≡ 0
+
+-- age j is in [sfd(t), lfd(t)]
+abbrev pub Timely : Net → ℕ → ℕ → Type 0
+Timely N t j = (N .sfd t ≤ j) × (j ≤ N .lfd t)
+
+-- no place passes the limit when `more p` tokens join it
+abbrev pub Fits : Net → State → (ℕ → ℕ) → Type 0
+Fits N S more = (p : ℕ) → p < N .places → Held (tokens S p + more p)
+
+-- Definition 5.1
+pub record Starts (N : Net) (S : State) (t : ℕ) (S′ : State) : Type 0 where
+  pub known : t < N .transitions
+  pub enabled : Enabled N S t 1
+  pub room : Held (suc (count S t 0))
+  pub marked : (p : ℕ) → p < N .places → tokens S′ p + N .takes t p ≡ tokens S p
+  pub counted : (u k : ℕ) → u < N .transitions → k < width N → count S′ u k ≡ count S u k + one t 0 u k
+  pub shaped : Shaped N S′
+
+-- Definition 5.2
+pub record Ends (N : Net) (S : State) (t j : ℕ) (S′ : State) : Type 0 where
+  pub known : t < N .transitions
+  pub timely : Timely N t j
+  pub active : 1 ≤ count S t j
+  pub room : Fits N S (N .gives t)
+  pub marked : (p : ℕ) → p < N .places → tokens S′ p ≡ tokens S p + N .gives t p
+  pub counted : (u k : ℕ) → u < N .transitions → k < width N → count S′ u k + one t j u k ≡ count S u k
+  pub shaped : Shaped N S′
+
+-- Definition 5.3, and the deadlock rule: something is running
+pub record Ticks (N : Net) (S S′ : State) : Type 0 where
+  pub no-start-owed : NoStartOwed N S
+  pub no-end-owed : NoEndOwed N S
+  pub running : ¬ NothingRunning N S
+  pub marked : (p : ℕ) → p < N .places → tokens S′ p ≡ tokens S p
+  pub fresh : (t : ℕ) → t < N .transitions → count S′ t 0 ≡ 0
+  pub aged : (t j : ℕ) → t < N .transitions → suc j < width N → count S′ t (suc j) ≡ count S t j
+  pub shaped : Shaped N S′
+
+-- S moves to S′ by the event
+abbrev pub Moves : Net → State → Event → State → Type 0
+Moves N S event.Tick S′ = Ticks N S S′
+Moves N S (event.Start t) S′ = Starts N S t S′
+Moves N S (event.End t age) S′ = Ends N S t (age .0) S′
+Moves N S event.Malformed S′ = ⊥

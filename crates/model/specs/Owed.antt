@@ -1,0 +1,80 @@
+-- What is owed in a state: the transitions that must start, those that must end, and how the state stands (document 01,
+-- "Owed report").
+-- Assumes nothing.
+use mathlib.Core.Path.{_≡_}
+use mathlib.Core.Bool.{Bool, _&&_, not, cond}
+use Prim.Native.Nat.{ℕ, zero, suc, _<_, _≤_}
+use lib.Dec.{leb, ltb}
+use Rattle.model.specs.declared.answer.Standing.{Standing}
+use Rattle.model.specs.declared.answer.Standing.the-variants as standing
+use Rattle.model.specs.Tab.{howMany, lowest}
+use Rattle.model.specs.Limits.{transitionLimit}
+use Rattle.model.specs.Net.{Net, State, count}
+use Rattle.model.specs.Moves.{Enabled, NoStartOwed, NoEndOwed, NothingRunning}
+use Rattle.model.specs.Rules.{enabled?, no-start-owed?, no-end-owed?, nothing-running?}
+
+-- THE TWO SETS
+
+-- t is one of the net's transitions and is enabled: its start is owed
+abbrev pub OwesStart : Net → State → ℕ → Type 0
+OwesStart N S t = (t < N .transitions) × Enabled N S t 1
+
+unfoldable pub owes-start? : Net → State → ℕ → Bool
+owes-start? N S t = ltb t (N .transitions) && enabled? N S t 1
+
+-- t is one of the net's transitions and has a count at its lfd: its end is owed
+abbrev pub OwesEnd : Net → State → ℕ → Type 0
+OwesEnd N S t = (t < N .transitions) × (1 ≤ count S t (N .lfd t))
+
+unfoldable pub owes-end? : Net → State → ℕ → Bool
+owes-end? N S t = ltb t (N .transitions) && leb 1 (count S t (N .lfd t))
+
+-- OF A SET OF TRANSITIONS: HOW MANY IT HAS, AND THE LOWEST
+
+-- A holds of k numbers below n
+pub data Numbers (A : ℕ → Type 0) : ℕ → ℕ → Type 0 where
+  none : Numbers A 0 0
+  one-more : {n k : ℕ} → A n → Numbers A n k → Numbers A (suc n) (suc k)
+  no-more : {n k : ℕ} → ¬ A n → Numbers A n k → Numbers A (suc n) k
+
+-- l is the lowest of those, or 64 where there is none
+pub data Lowest (A : ℕ → Type 0) (n : ℕ) : ℕ → Type 0 where
+  found : {l : ℕ} → l < n → A l → ((i : ℕ) → i < l → ¬ A i) → Lowest A n l
+  empty : ((i : ℕ) → i < n → ¬ A i) → Lowest A n transitionLimit
+
+-- THE STANDING
+
+-- how S stands: the first of the four that holds
+pub data Stands (N : Net) (S : State) : Standing → Type 0 where
+  start-owed : ¬ NoStartOwed N S → Stands N S standing.StartOwed
+  end-owed : NoStartOwed N S → ¬ NoEndOwed N S → Stands N S standing.EndOwed
+  free-to-tick : NoStartOwed N S → NoEndOwed N S → ¬ NothingRunning N S → Stands N S standing.FreeToTick
+  at-rest : NoStartOwed N S → NoEndOwed N S → NothingRunning N S → Stands N S standing.AtRest
+
+unfoldable pub standingOf : Net → State → Standing
+standingOf N S =
+    cond (not (no-start-owed? N S)) standing.StartOwed
+    (cond (not (no-end-owed? N S)) standing.EndOwed
+    (cond (not (nothing-running? N S)) standing.FreeToTick standing.AtRest))
+
+-- THE REPORT
+
+pub record Report : Type 0 where
+  pub starts : ℕ → Bool
+  pub ends : ℕ → Bool
+  pub start-count : ℕ
+  pub end-count : ℕ
+  pub lowest-start : ℕ
+  pub lowest-end : ℕ
+  pub standing : Standing
+
+unfoldable pub owed : Net → State → Report
+owed N S = record {
+  starts = owes-start? N S;
+  ends = owes-end? N S;
+  start-count = howMany (N .transitions) (owes-start? N S);
+  end-count = howMany (N .transitions) (owes-end? N S);
+  lowest-start = lowest transitionLimit (N .transitions) (owes-start? N S);
+  lowest-end = lowest transitionLimit (N .transitions) (owes-end? N S);
+  standing = standingOf N S;
+}

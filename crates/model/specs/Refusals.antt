@@ -1,0 +1,46 @@
+-- Document 01's table of numbers for one event: which refusal is given exactly when. Each stands behind those before it.
+-- Assumes nothing.
+use Prim.Native.Nat.{ℕ, suc, _<_, _≤_}
+use Rattle.model.specs.declared.age.Age.{Age}
+use Rattle.model.specs.declared.event.Event.{Event}
+use Rattle.model.specs.declared.event.Event.the-variants as event
+use Rattle.model.specs.declared.answer.Refusal.{Refusal}
+use Rattle.model.specs.declared.answer.Refusal.the-variants as refusal
+use Rattle.model.specs.Limits.{Held}
+use Rattle.model.specs.Net.{Net, State, Lawful, count}
+use Rattle.model.specs.Moves.{Enabled, NoStartOwed, NoEndOwed, NothingRunning, Timely, Fits, Moves}
+
+-- 11 and 12, told of an event done and of one taken back
+pub data Unfit (N : Net) : Event → Refusal → Type 0 where
+  malformed : Unfit N event.Malformed refusal.Malformed
+  no-such-start : {t : ℕ} → ¬ (t < N .transitions) → Unfit N (event.Start t) refusal.NoSuchTransition
+  no-such-end : {t : ℕ} {age : Age} → ¬ (t < N .transitions) → Unfit N (event.End t age) refusal.NoSuchTransition
+
+-- neither of them is told
+abbrev pub Fit : Net → Event → Type 0
+Fit N event.Tick = Unit {0}
+Fit N (event.Start t) = t < N .transitions
+Fit N (event.End t age) = t < N .transitions
+Fit N event.Malformed = ⊥
+
+-- 11 to 20: the event is refused in S, and why
+pub data Refuses (N : Net) (S : State) : Event → Refusal → Type 0 where
+  unfit : {e : Event} {why : Refusal} → Unfit N e why → Refuses N S e why
+  not-enabled : {t : ℕ} → t < N .transitions → ¬ Enabled N S t 1 → Refuses N S (event.Start t) refusal.NotEnabled
+  count-full : {t : ℕ} → t < N .transitions → Enabled N S t 1
+      → ¬ Held (suc (count S t 0)) → Refuses N S (event.Start t) refusal.CountFull
+  outside-interval : {t : ℕ} {age : Age} → t < N .transitions
+      → ¬ Timely N t (age .0) → Refuses N S (event.End t age) refusal.OutsideInterval
+  none-of-that-age : {t : ℕ} {age : Age} → t < N .transitions → Timely N t (age .0)
+      → ¬ (1 ≤ count S t (age .0)) → Refuses N S (event.End t age) refusal.NoneOfThatAge
+  place-full : {t : ℕ} {age : Age} → t < N .transitions → Timely N t (age .0) → 1 ≤ count S t (age .0)
+      → ¬ Fits N S (N .gives t) → Refuses N S (event.End t age) refusal.PlaceFull
+  start-owed : ¬ NoStartOwed N S → Refuses N S event.Tick refusal.StartOwed
+  end-owed : NoStartOwed N S → ¬ NoEndOwed N S → Refuses N S event.Tick refusal.EndOwed
+  nothing-running : NoStartOwed N S → NoEndOwed N S → NothingRunning N S → Refuses N S event.Tick refusal.NothingRunning
+
+-- 11, 12 and 21: the event cannot be taken back from S′, and why
+pub data Barred (N : Net) (S′ : State) : Event → Refusal → Type 0 where
+  unfit : {e : Event} {why : Refusal} → Unfit N e why → Barred N S′ e why
+  no-state-before : {e : Event} → Fit N e
+      → ((S : State) → Lawful N S → ¬ Moves N S e S′) → Barred N S′ e refusal.NoStateBefore

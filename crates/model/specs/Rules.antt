@@ -1,0 +1,143 @@
+-- The rules of the events as functions that compute: one event done, one event taken back, the degree. Their only control
+-- structure is `unless`, in document 01's order. proofs/ ties them to the relations of Moves.antt and Refusals.antt.
+-- Assumes nothing.
+use mathlib.Core.Path.{_≡_}
+use mathlib.Core.Bool.{Bool, true, false, _&&_, not}
+use Prim.Native.Nat.{ℕ, zero, suc, _+_, _-_, _*_, _/_, _<_, _≤_}
+use lib.Dec.{leb, ltb, eqb}
+use Rattle.model.specs.declared.event.Event.{Event}
+use Rattle.model.specs.declared.event.Event.the-variants as event
+use Rattle.model.specs.declared.answer.Refusal.{Refusal}
+use Rattle.model.specs.declared.answer.Refusal.the-variants as refusal
+use Rattle.model.specs.declared.answer.Answer.{Answer}
+use Rattle.model.specs.declared.answer.Answer.the-variants as answer
+use Rattle.model.specs.Tab.{all, one, least}
+use Rattle.model.specs.Limits.{held?, tokenLimit}
+use Rattle.model.specs.Net.{Net, State, width, tokens, count, build}
+
+-- OUTCOMES
+
+-- what doing an event, or taking it back, comes to
+pub data Outcome : Type 0 where
+  done : State → Outcome
+  refused : Refusal → Outcome
+
+-- where the test fails the refusal is told, and else what follows
+abbrev pub unless : Bool → Refusal → Outcome → Outcome
+unless true why o = o
+unless false why o = refused why
+
+abbrev pub answerOf : Outcome → Answer
+answerOf (done S) = answer.Done
+answerOf (refused why) = answer.Refused why
+
+-- the state that stands after an event in S: a refused event changes nothing
+abbrev pub stateAfter : State → Outcome → State
+stateAfter S (done S′) = S′
+stateAfter S (refused why) = S
+
+-- THE TESTS, each with the relation of its name
+
+unfoldable pub enabled? : Net → State → ℕ → ℕ → Bool
+enabled? N S t n = all (N .places) (λ p. leb (n * N .takes t p) (tokens S p))
+
+unfoldable pub no-start-owed? : Net → State → Bool
+no-start-owed? N S = all (N .transitions) (λ t. not (enabled? N S t 1))
+
+unfoldable pub no-end-owed? : Net → State → Bool
+no-end-owed? N S = all (N .transitions) (λ t. eqb (count S t (N .lfd t)) 0)
+
+unfoldable pub nothing-running? : Net → State → Bool
+nothing-running? N S = all (N .transitions) (λ t. all (width N) (λ j. eqb (count S t j) 0))
+
+unfoldable pub timely? : Net → ℕ → ℕ → Bool
+timely? N t j = leb (N .sfd t) j && leb j (N .lfd t)
+
+unfoldable pub fits? : Net → State → (ℕ → ℕ) → Bool
+fits? N S more = all (N .places) (λ p. held? (tokens S p + more p))
+
+-- ONE EVENT DONE
+
+unfoldable pub started : Net → State → ℕ → State
+started N S t = build N (λ p. tokens S p - N .takes t p) (λ u k. count S u k + one t 0 u k)
+
+unfoldable pub ended : Net → State → ℕ → ℕ → State
+ended N S t j = build N (λ p. tokens S p + N .gives t p) (λ u k. count S u k - one t j u k)
+
+-- the counts one age later
+unfoldable pub older : (ℕ → ℕ → ℕ) → ℕ → ℕ → ℕ
+older h t zero = 0
+older h t (suc j) = h t j
+
+unfoldable pub ticked : Net → State → State
+ticked N S = build N (tokens S) (older (count S))
+
+-- 11 to 20
+unfoldable pub apply : Net → State → Event → Outcome
+apply N S event.Tick =
+    unless (no-start-owed? N S) refusal.StartOwed
+    (unless (no-end-owed? N S) refusal.EndOwed
+    (unless (not (nothing-running? N S)) refusal.NothingRunning (done (ticked N S))))
+apply N S (event.Start t) =
+    unless (ltb t (N .transitions)) refusal.NoSuchTransition
+    (unless (enabled? N S t 1) refusal.NotEnabled
+    (unless (held? (suc (count S t 0))) refusal.CountFull (done (started N S t))))
+apply N S (event.End t age) =
+    unless (ltb t (N .transitions)) refusal.NoSuchTransition
+    (unless (timely? N t (age .0)) refusal.OutsideInterval
+    (unless (leb 1 (count S t (age .0))) refusal.NoneOfThatAge
+    (unless (fits? N S (N .gives t)) refusal.PlaceFull (done (ended N S t (age .0))))))
+apply N S event.Malformed = refused refusal.Malformed
+
+-- ONE EVENT TAKEN BACK: S′ is the state that it led to
+
+-- every place has `fewer p` tokens to give back
+abbrev pub Covers : Net → State → (ℕ → ℕ) → Type 0
+Covers N S′ fewer = (p : ℕ) → p < N .places → fewer p ≤ tokens S′ p
+
+unfoldable pub covers? : Net → State → (ℕ → ℕ) → Bool
+covers? N S′ fewer = all (N .places) (λ p. leb (fewer p) (tokens S′ p))
+
+-- no firing has age 0
+abbrev pub NoneFresh : Net → State → Type 0
+NoneFresh N S′ = (t : ℕ) → t < N .transitions → count S′ t 0 ≡ 0
+
+unfoldable pub none-fresh? : Net → State → Bool
+none-fresh? N S′ = all (N .transitions) (λ t. eqb (count S′ t 0) 0)
+
+unfoldable pub unstarted : Net → State → ℕ → State
+unstarted N S′ t = build N (λ p. tokens S′ p + N .takes t p) (λ u k. count S′ u k - one t 0 u k)
+
+unfoldable pub unended : Net → State → ℕ → ℕ → State
+unended N S′ t j = build N (λ p. tokens S′ p - N .gives t p) (λ u k. count S′ u k + one t j u k)
+
+-- the last column reads one age past the matrix, where `count` is 0
+unfoldable pub unticked : Net → State → State
+unticked N S′ = build N (tokens S′) (λ t j. count S′ t (suc j))
+
+-- 11, 12 and 21
+unfoldable pub back : Net → State → Event → Outcome
+back N S′ event.Tick =
+    unless (none-fresh? N S′) refusal.NoStateBefore
+    (unless (no-start-owed? N S′) refusal.NoStateBefore
+    (unless (not (nothing-running? N S′)) refusal.NoStateBefore (done (unticked N S′))))
+back N S′ (event.Start t) =
+    unless (ltb t (N .transitions)) refusal.NoSuchTransition
+    (unless (leb 1 (count S′ t 0)) refusal.NoStateBefore
+    (unless (fits? N S′ (N .takes t)) refusal.NoStateBefore (done (unstarted N S′ t))))
+back N S′ (event.End t age) =
+    unless (ltb t (N .transitions)) refusal.NoSuchTransition
+    (unless (timely? N t (age .0)) refusal.NoStateBefore
+    (unless (covers? N S′ (N .gives t)) refusal.NoStateBefore
+    (unless (held? (suc (count S′ t (age .0)))) refusal.NoStateBefore (done (unended N S′ t (age .0))))))
+back N S′ event.Malformed = refused refusal.Malformed
+
+-- THE DEGREE
+
+-- how many times a weight goes into a marking: any number of times where it is 0, so the limit
+unfoldable pub share : ℕ → ℕ → ℕ
+share zero m = tokenLimit
+share (suc w) m = m / suc w
+
+unfoldable pub degree : Net → State → ℕ → ℕ
+degree N S t = least tokenLimit (N .places) (λ p. share (N .takes t p) (tokens S p))
