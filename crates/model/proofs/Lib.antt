@@ -5,3 +5,8 @@ pub mod Forward
 pub mod Lawful
 pub mod Back
 pub mod Refusals
+pub mod Turns
+pub mod Run
+pub mod Reversed
+pub mod Walk
+pub mod Degree

@@ -1,17 +1,19 @@
 -- What the tests of specs/ tell, and what an outcome behind tests comes to.
 -- Assumes nothing.
-use mathlib.Core.Path.{_≡_, refl}
+use mathlib.Core.Path.{_≡_, refl, sym}
 use mathlib.Core.Bool.{Bool, true, false, not}
 use mathlib.Core.Logic.{_↔_}
-use Prim.Native.Nat.{ℕ, suc, _+_, _*_, _<_, _≤_}
+use Prim.Native.Nat.{ℕ, zero, suc, _+_, _*_, _<_, _≤_}
+use native.Mathlib.Nat.{not-suc-le-zero}
 use native.Mathlib.Omega.{arith}
 use lib.Dec.{leb, ltb, eqb, leb→le, le→leb, eqb→eq, eqb-refl}
 use Rattle.model.specs.declared.answer.Refusal.{Refusal}
+use Rattle.model.specs.Tab.{Tells}
 use Rattle.model.specs.Limits.{Sized, sized?, Timed, timed?, Logged, logged?, Held, held?, placeLimit, transitionLimit, durationLimit, eventLimit, tokenLimit}
 use Rattle.model.specs.Net.{Net, State, width, tokens, count}
 use Rattle.model.specs.Moves.{Enabled, NoStartOwed, NoEndOwed, NothingRunning, Timely, Fits}
 use Rattle.model.specs.Rules.{Outcome, done, refused, unless, enabled?, no-start-owed?, no-end-owed?, nothing-running?, timely?, fits?, Covers, covers?, NoneFresh, none-fresh?}
-use Rattle.model.proofs.Tab.{Tells, all-tells, both-tell}
+use Rattle.model.proofs.Tab.{all-tells, both-tell, below-suc}
 
 pub leb-tells : (m n : ℕ) → Tells (leb m n) (m ≤ n)
 leb-tells m n = record { sound = leb→le m n; complete = le→leb m n }
@@ -93,6 +95,20 @@ told-true {b = false} t a = absurd (t .complete a)
 pub told-false : {b : Bool} {A : Type 0} → Tells b A → ¬ A → b ≡ false
 told-false {b = true} t f = absurd (f (t .sound tt))
 told-false {b = false} t f = refl
+
+-- two tests of one thing are equal
+pub tells-once : {a b : Bool} {A : Type 0} → Tells a A → Tells b A → a ≡ b
+tells-once {a = true} s t = sym (told-true t (s .sound tt))
+tells-once {a = false} s t = sym (told-false t (s .complete))
+
+-- what does not hold of all numbers below n fails at one of them
+pub some-fails : (n : ℕ) {f : ℕ → Bool} {A : ℕ → Type 0} → ((i : ℕ) → Tells (f i) (A i))
+    → ¬ ((i : ℕ) → i < n → A i) → (i : ℕ) × (i < n) × (¬ A i)
+some-fails zero each never-all = absurd (never-all (λ i h. absurd (not-suc-le-zero h)))
+some-fails (suc n) {f} {A} each never-all =
+    decide (each n)
+    (λ a. let (i, l, fails) = some-fails n each (λ rest. never-all (below-suc A n a rest)) in (i, omega arith, fails))
+    (λ fails. (n, omega arith, fails))
 
 -- AN OUTCOME
 

@@ -1,9 +1,14 @@
--- Lists, tests and bounds made of a function on 0 .. n - 1. Their laws are in proofs/Tab.antt.
+-- What a test tells; and lists, tests and bounds made of a function on 0 .. n - 1. Their laws are in proofs/Tab.antt.
 -- Assumes nothing.
 use mathlib.Core.Bool.{Bool, true, false, _&&_, cond}
 use mathlib.Core.List.{List, [], _∷_}
 use Prim.Native.Nat.{ℕ, zero, suc, _+_, max, min}
-use lib.Dec.{eqb}
+use lib.Dec.{T, eqb}
+
+-- the test b decides A: it passes exactly where A holds
+pub record Tells (b : Bool) (A : Type 0) : Type 0 where
+  pub sound : T b → A
+  pub complete : A → T b
 
 -- the list f 0, f 1, .., f (n - 1)
 unfoldable pub tab : {A : Type 0} → ℕ → (ℕ → A) → List A
