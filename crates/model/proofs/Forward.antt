@@ -71,7 +71,7 @@ module _ (N : Net) (S : State) where
     shaped = build-shaped N _ _;
   }
 
-  ticks : NoStartOwed N S → NoEndOwed N S → ¬ NothingRunning N S → Ticks N S (ticked N S)
+  pub ticks : NoStartOwed N S → NoEndOwed N S → ¬ NothingRunning N S → Ticks N S (ticked N S)
   unfolding ticked older
   ticks s e a = record {
     no-start-owed = s;

@@ -10,3 +10,6 @@ pub mod Run
 pub mod Reversed
 pub mod Walk
 pub mod Degree
+pub mod Owed
+pub mod Determined
+pub mod Demands

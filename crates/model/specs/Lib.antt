@@ -9,3 +9,4 @@ pub mod Refusals
 pub mod Rules
 pub mod Run
 pub mod Owed
+pub mod Demands

@@ -1,13 +1,12 @@
 -- What is owed in a state: the transitions that must start, those that must end, and how the state stands (document 01,
 -- "Owed report").
 -- Assumes nothing.
-use mathlib.Core.Path.{_≡_}
 use mathlib.Core.Bool.{Bool, _&&_, not, cond}
-use Prim.Native.Nat.{ℕ, zero, suc, _<_, _≤_}
+use Prim.Native.Nat.{ℕ, suc, _<_, _≤_}
 use lib.Dec.{leb, ltb}
 use Rattle.model.specs.declared.answer.Standing.{Standing}
 use Rattle.model.specs.declared.answer.Standing.the-variants as standing
-use Rattle.model.specs.Tab.{howMany, lowest}
+use Rattle.model.specs.Tab.{Tells, howMany, lowest}
 use Rattle.model.specs.Limits.{transitionLimit}
 use Rattle.model.specs.Net.{Net, State, count}
 use Rattle.model.specs.Moves.{Enabled, NoStartOwed, NoEndOwed, NothingRunning}
@@ -67,6 +66,16 @@ pub record Report : Type 0 where
   pub lowest-start : ℕ
   pub lowest-end : ℕ
   pub standing : Standing
+
+-- r is what is to be reported of S
+pub record Reports (N : Net) (S : State) (r : Report) : Type 0 where
+  pub starts-are : (t : ℕ) → Tells (r .starts t) (OwesStart N S t)
+  pub ends-are : (t : ℕ) → Tells (r .ends t) (OwesEnd N S t)
+  pub start-count-is : Numbers (OwesStart N S) (N .transitions) (r .start-count)
+  pub end-count-is : Numbers (OwesEnd N S) (N .transitions) (r .end-count)
+  pub lowest-start-is : Lowest (OwesStart N S) (N .transitions) (r .lowest-start)
+  pub lowest-end-is : Lowest (OwesEnd N S) (N .transitions) (r .lowest-end)
+  pub standing-is : Stands N S (r .standing)
 
 unfoldable pub owed : Net → State → Report
 owed N S = record {

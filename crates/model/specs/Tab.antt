@@ -2,7 +2,7 @@
 -- Assumes nothing.
 use mathlib.Core.Bool.{Bool, true, false, _&&_, cond}
 use mathlib.Core.List.{List, [], _∷_}
-use Prim.Native.Nat.{ℕ, zero, suc, _+_, max, min}
+use Prim.Native.Nat.{ℕ, zero, suc, max, min}
 use lib.Dec.{T, eqb}
 
 -- the test b decides A: it passes exactly where A holds
@@ -30,18 +30,18 @@ unfoldable pub least : ℕ → ℕ → (ℕ → ℕ) → ℕ
 least top zero f = top
 least top (suc n) f = min (f n) (least top n f)
 
-abbrev pub oneIf : Bool → ℕ
-oneIf b = cond b 1 0
-
 -- at how many numbers below n the test f passes
 unfoldable pub howMany : ℕ → (ℕ → Bool) → ℕ
 howMany zero f = 0
-howMany (suc n) f = oneIf (f n) + howMany n f
+howMany (suc n) f = cond (f n) (suc (howMany n f)) (howMany n f)
 
 -- the lowest number below n at which the test f passes, and `none` where it passes at none
 unfoldable pub lowest : ℕ → ℕ → (ℕ → Bool) → ℕ
 lowest none zero f = none
 lowest none (suc n) f = lowest (cond (f n) n none) n f
+
+abbrev pub oneIf : Bool → ℕ
+oneIf b = cond b 1 0
 
 -- the matrix with a single 1, at row t and column j
 unfoldable pub one : ℕ → ℕ → ℕ → ℕ → ℕ

@@ -1,0 +1,48 @@
+-- The demands hold of every net. Each field cites the theorem that carries it.
+-- Assumes nothing.
+use mathlib.Core.Path.{_≡_, sym, subst}
+use Rattle.model.specs.Net.{Net}
+use Rattle.model.specs.Run.{Ran, Walked}
+use Rattle.model.specs.Owed.{Reports}
+use Rattle.model.specs.Demands.{Demand2, Demand3, StaysLawful}
+use Rattle.model.proofs.Forward.{apply-exact}
+use Rattle.model.proofs.Lawful.{initially-lawful, moves-lawful}
+use Rattle.model.proofs.Back.{back-exact, apply-lawful, back-lawful, apply-injective}
+use Rattle.model.proofs.Refusals.{apply-refuses, back-refuses}
+use Rattle.model.proofs.Run.{run-exact, run-ran, ran-only}
+use Rattle.model.proofs.Walk.{walk-exact, walk-back, walk-walked, walked-only}
+use Rattle.model.proofs.Owed.{owed-reports, reports-once}
+
+pub demand-2 : (N : Net) → Demand2 N
+demand-2 N = record {
+  event-accepted = apply-exact N;
+  event-refused = apply-refuses N;
+  log-accepted = run-exact N;
+  log-told = λ S es r. ((λ e. subst (Ran N S es) (sym e) (run-ran N S es)), ran-only N S es r);
+  owed-told = λ S r. ((λ e. subst (Reports N S) (sym e) (owed-reports N S)), λ h. reports-once N S h (owed-reports N S));
+}
+
+pub demand-3 : (N : Net) → Demand3 N
+demand-3 N = record {
+  succeeds = λ S′ s′ e. (
+    (λ (S, d). let (s, m) = back-exact N S′ s′ e S .0 d in (S, s, m)),
+    λ (S, s, m). (S, back-exact N S′ s′ e S .1 (s, m)),
+  );
+  never-a-second = λ S′ e (S₁, s₁, m₁) (S₂, s₂, m₂).
+      apply-injective N e S₁ S₂ S′ s₁ s₂ (apply-exact N S₁ e S′ .1 m₁) (apply-exact N S₂ e S′ .1 m₂);
+  yields = λ S′ s′ e (S, s, m). back-exact N S′ s′ e S .1 (s, m);
+  back-refused = back-refuses N;
+  walked-back = walk-back N;
+  walk-accepted = walk-exact N;
+  walk-told = λ S′ s′ es n r. (
+    (λ e. subst (Walked N S′ es n) (sym e) (walk-walked N S′ s′ es n)),
+    walked-only N S′ s′ es n r,
+  );
+}
+
+pub stays-lawful : (N : Net) → StaysLawful N
+stays-lawful N = record {
+  at-first = initially-lawful N;
+  forward = λ S S′ e. apply-lawful N e S S′;
+  backward = λ S′ S e. back-lawful N e S S′;
+}

@@ -1,0 +1,59 @@
+-- The demands on the engine, as statements about a net: the sentences of demands 2 and 3 in their order. proofs/Demands.antt
+-- proves them of every net, whatever its durations.
+-- Assumes nothing.
+use mathlib.Core.Path.{_≡_}
+use mathlib.Core.Logic.{_↔_}
+use mathlib.Core.List.{List}
+use Prim.Native.Nat.{ℕ, _-_, _≤_}
+use lib.ListN.{length, take}
+use Rattle.model.specs.declared.event.Event.{Event}
+use Rattle.model.specs.declared.answer.Refusal.{Refusal}
+use Rattle.model.specs.Net.{Net, State, Proper, Lawful, initially}
+use Rattle.model.specs.Moves.{Moves}
+use Rattle.model.specs.Refusals.{Refuses, Barred}
+use Rattle.model.specs.Rules.{done, refused, apply, back}
+use Rattle.model.specs.Run.{Told, Leads, Ran, Walked, run, walk, lastOf, acceptedRun, acceptedWalk}
+use Rattle.model.specs.Owed.{Report, Reports, owed}
+
+-- DEMAND 2
+pub record Demand2 (N : Net) : Type 0 where
+  -- an event is accepted exactly when the rules permit it, and the state after it is the one they give
+  pub event-accepted : (S : State) (e : Event) (S′ : State) → (apply N S e ≡ done S′) ↔ Moves N S e S′
+  -- each refusal is given exactly when document 01 says
+  pub event-refused : (S : State) (e : Event) (why : Refusal) → (apply N S e ≡ refused why) ↔ Refuses N S e why
+  -- a log is accepted exactly when each event in turn is
+  pub log-accepted : (S : State) (es : List Event) (S′ : State) → (run N S es ≡ acceptedRun es S′) ↔ Leads N S es S′
+  -- what is told of any log, accepted or refused, is exact, and the state left is the one just before the refused event
+  pub log-told : (S : State) (es : List Event) (r : Told) → (r ≡ run N S es) ↔ Ran N S es r
+  -- the owed report is exact
+  pub owed-told : (S : State) (r : Report) → (r ≡ owed N S) ↔ Reports N S r
+
+-- some lawful state leads to S′ by the event
+abbrev pub SomeLeads : Net → State → Event → Type 0
+SomeLeads N S′ e = (S : State) × Lawful N S × Moves N S e S′
+
+-- DEMAND 3
+pub record Demand3 (N : Net) : Type 0 where
+  -- a step back succeeds exactly if some lawful state leads here by that event
+  pub succeeds : (S′ : State) → Lawful N S′ → (e : Event) → ((S : State) × (back N S′ e ≡ done S)) ↔ SomeLeads N S′ e
+  -- there is never a second such state
+  pub never-a-second : (S′ : State) (e : Event) (a b : SomeLeads N S′ e) → a .0 ≡ b .0
+  -- and the step back yields it
+  pub yields : (S′ : State) → Lawful N S′ → (e : Event) (a : SomeLeads N S′ e) → back N S′ e ≡ done (a .0)
+  -- where there is none, 21 is told, behind 11 and 12
+  pub back-refused : (S′ : State) → Lawful N S′ → (e : Event) (why : Refusal) → (back N S′ e ≡ refused why) ↔ Barred N S′ e why
+  -- so walking back the last n events of an accepted log gives the very state that the earlier events gave
+  pub walked-back : (S S′ : State) (es : List Event) (n : ℕ) → Lawful N S → run N S es ≡ acceptedRun es S′ → n ≤ length es
+      → (S₁ : State) × (run N S (take (length es - n) es) ≡ acceptedRun (take (length es - n) es) S₁)
+      × (walk N S′ es n ≡ acceptedWalk es n S₁)
+  -- a walk from any lawful state is accepted exactly if the last n events lead here from a lawful state, which it gives
+  pub walk-accepted : (S′ : State) → Lawful N S′ → (es : List Event) (n : ℕ) → n ≤ length es → (S : State)
+      → (walk N S′ es n ≡ acceptedWalk es n S) ↔ (Lawful N S × Leads N S (lastOf n es) S′)
+  -- and what is told of any walk is exact
+  pub walk-told : (S′ : State) → Lawful N S′ → (es : List Event) (n : ℕ) (r : Told) → (r ≡ walk N S′ es n) ↔ Walked N S′ es n r
+
+-- lawful states stay lawful, forward and back, and the initial state is lawful
+pub record StaysLawful (N : Net) : Type 0 where
+  pub at-first : Proper N → Lawful N (initially N)
+  pub forward : (S S′ : State) (e : Event) → Lawful N S → apply N S e ≡ done S′ → Lawful N S′
+  pub backward : (S′ S : State) (e : Event) → Lawful N S′ → back N S′ e ≡ done S → Lawful N S
