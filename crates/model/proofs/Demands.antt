@@ -1,12 +1,12 @@
 -- The demands hold of every net. Each field cites the theorem that carries it.
 -- Assumes nothing.
-use mathlib.Core.Path.{_≡_, sym, subst}
+use mathlib.Core.Path.{sym, subst}
 use Rattle.model.specs.Net.{Net}
 use Rattle.model.specs.Run.{Ran, Walked}
 use Rattle.model.specs.Owed.{Reports}
 use Rattle.model.specs.Demands.{Demand2, Demand3, StaysLawful}
 use Rattle.model.proofs.Forward.{apply-exact}
-use Rattle.model.proofs.Lawful.{initially-lawful, moves-lawful}
+use Rattle.model.proofs.Lawful.{initially-lawful}
 use Rattle.model.proofs.Back.{back-exact, apply-lawful, back-lawful, apply-injective}
 use Rattle.model.proofs.Refusals.{apply-refuses, back-refuses}
 use Rattle.model.proofs.Run.{run-exact, run-ran, ran-only}

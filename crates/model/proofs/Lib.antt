@@ -13,3 +13,4 @@ pub mod Degree
 pub mod Owed
 pub mod Determined
 pub mod Demands
+pub mod Cases

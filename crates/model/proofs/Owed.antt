@@ -1,23 +1,22 @@
 -- The owed report is what document 01 says: the two sets, their numbers, the lowest of each, and the standing.
 -- Assumes nothing.
 use mathlib.Core.Path.{_≡_, refl, sym, ap}
-use mathlib.Core.Bool.{Bool, true, false, cond, not}
+use mathlib.Core.Bool.{Bool, true, false, cond}
 use mathlib.Core.Logic.{_↔_, _⊎_, inl, inr}
-use Prim.Native.Nat.{ℕ, zero, suc, _+_, _<_, _≤_}
-use native.Mathlib.Nat.{not-suc-le-zero}
+use Prim.Native.Nat.{ℕ, zero, suc, _<_, _≤_}
 use native.Mathlib.Omega.{arith}
 use Rattle.model.specs.declared.event.Event.the-variants as event
 use Rattle.model.specs.declared.answer.Standing.{Standing}
 use Rattle.model.specs.declared.answer.Standing.the-variants as standing
-use Rattle.model.specs.Tab.{Tells, oneIf, howMany, lowest}
+use Rattle.model.specs.Tab.{Tells, howMany, lowest}
 use Rattle.model.specs.Limits.{transitionLimit}
 use Rattle.model.specs.Net.{Net, State, count}
-use Rattle.model.specs.Moves.{NoStartOwed, NoEndOwed, Moves}
-use Rattle.model.specs.Rules.{no-start-owed?, no-end-owed?, nothing-running?, ticked, apply, done}
+use Rattle.model.specs.Moves.{NoStartOwed, NoEndOwed}
+use Rattle.model.specs.Rules.{ticked, apply, done}
 use Rattle.model.specs.Owed.{OwesStart, owes-start?, OwesEnd, owes-end?, Numbers, Lowest, Stands, standingOf, Report, Reports, owed}
 use Rattle.model.proofs.Tab.{both-tell, below-or-past, at-or-below}
-use Rattle.model.proofs.Tests.{leb-tells, ltb-tells, not-tells, enabled-tells, no-start-owed-tells, no-end-owed-tells}
-use Rattle.model.proofs.Tests.{nothing-running-tells, decide, stable, told-true, told-false, tells-once}
+use Rattle.model.proofs.Tests.{leb-tells, ltb-tells, enabled-tells, no-start-owed-tells, no-end-owed-tells}
+use Rattle.model.proofs.Tests.{nothing-running-tells, decide, told-true, told-false, tells-once}
 use Rattle.model.proofs.Forward.{ticks, apply-exact}
 
 -- OF ANY SET THAT A TEST TELLS
@@ -137,8 +136,11 @@ module _ (N : Net) (S : State) where
 
   -- 'free to tick' holds exactly where a tick is accepted
   pub free-to-tick : Stands N S standing.FreeToTick ↔ ((S′ : State) × (apply N S event.Tick ≡ done S′))
-  free-to-tick = (free, λ (S′, d). let m = apply-exact N S event.Tick S′ .0 d in
-      Stands.free-to-tick (m .no-start-owed) (m .no-end-owed) (m .running))
+  free-to-tick = (
+    free,
+    λ (S′, d). let m = apply-exact N S event.Tick S′ .0 d in
+        Stands.free-to-tick (m .no-start-owed) (m .no-end-owed) (m .running),
+  )
     where
       free : Stands N S standing.FreeToTick → (S′ : State) × (apply N S event.Tick ≡ done S′)
       free (Stands.free-to-tick none none′ runs) =

@@ -10,3 +10,4 @@ pub mod Rules
 pub mod Run
 pub mod Owed
 pub mod Demands
+pub mod Cases

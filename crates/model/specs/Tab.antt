@@ -1,6 +1,6 @@
 -- What a test tells; and lists, tests and bounds made of a function on 0 .. n - 1. Their laws are in proofs/Tab.antt.
 -- Assumes nothing.
-use mathlib.Core.Bool.{Bool, true, false, _&&_, cond}
+use mathlib.Core.Bool.{Bool, true, _&&_, cond}
 use mathlib.Core.List.{List, [], _∷_}
 use Prim.Native.Nat.{ℕ, zero, suc, max, min}
 use lib.Dec.{T, eqb}
