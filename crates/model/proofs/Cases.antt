@@ -9,13 +9,13 @@ use native.Mathlib.Nat.{le-of-suc-le-suc, not-suc-le-zero}
 use lib.Dec.{T, eqb, eqb→eq}
 use lib.ListN.{length, getD}
 use Rattle.model.specs.Answer.{numberOfStanding}
-use Rattle.model.specs.Tab.{tab, all, largest, one}
+use Rattle.model.specs.Tab.{tab, all, largest, least, howMany, lowest, one}
 use Rattle.model.specs.Net.{width, State, tokens, count, build, initially}
 use Rattle.model.specs.Rules.{enabled?, no-start-owed?, no-end-owed?, nothing-running?, timely?, fits?, covers?, none-fresh?}
-use Rattle.model.specs.Rules.{older, started, ended, ticked, unstarted, unended, unticked, apply, back}
-use Rattle.model.specs.Run.{Told, Single, single, inTurn, run}
-use Rattle.model.specs.Owed.{standingOf}
-use Rattle.model.specs.Cases.{row, heavy, Case, runs, does, undoes, Holds, cases, furtherCases, caseAt}
+use Rattle.model.specs.Rules.{older, started, ended, ticked, unstarted, unended, unticked, apply, back, share, degree}
+use Rattle.model.specs.Run.{Told, Single, single, inTurn, run, walkBack, walk}
+use Rattle.model.specs.Owed.{owes-start?, owes-end?, standingOf, owed}
+use Rattle.model.specs.Cases.{row, heavy, Case, runs, walks, does, undoes, has-degree, owes, digest, Holds, cases, furtherCases, caseAt}
 
 -- TESTS OF EQUALITY
 
@@ -98,22 +98,28 @@ every-at f (x ∷ xs) d t (suc k) h = every-at f xs d (both (f x) (every f xs) t
 
 holds? : Case → Bool
 holds? (runs N S es r s) = sameTold (run N S es) r && eqb (numberOfStanding (standingOf N (r .state))) s
+holds? (walks N S′ es n r) = sameTold (walk N S′ es n) r
 holds? (does N S e r) = sameSingle (single S (apply N S e)) r
 holds? (undoes N S′ e r) = sameSingle (single S′ (back N S′ e)) r
+holds? (has-degree N S t n) = eqb (degree N S t) n
+holds? (owes N S r) = sameList eqb (digest (owed N S)) r
 
 holds-sound : (c : Case) → T (holds? c) → Holds c
 unfolding holds?
 holds-sound (runs N S es r s) t =
     let (a, b) = both (sameTold (run N S es) r) (eqb (numberOfStanding (standingOf N (r .state))) s) t in
     (sameTold-sound _ _ a, eqb→eq _ _ b)
+holds-sound (walks N S′ es n r) t = sameTold-sound _ _ t
 holds-sound (does N S e r) t = sameSingle-sound _ _ t
 holds-sound (undoes N S′ e r) t = sameSingle-sound _ _ t
+holds-sound (has-degree N S t n) h = eqb→eq _ _ h
+holds-sound (owes N S r) t = sameList-sound eqb eqb→eq _ _ t
 
 all-hold : T (every holds? cases && every holds? furtherCases)
 unfolding every holds? sameTold sameSingle sameState sameList numbers cases furtherCases row heavy
-    run inTurn standingOf apply back started ended ticked unstarted unended unticked older
+    run walk walkBack inTurn owed owes-start? owes-end? standingOf degree share apply back started ended ticked unstarted unended unticked older
     enabled? no-start-owed? no-end-owed? nothing-running? timely? fits? covers? none-fresh?
-    width tokens count build initially tab all largest one
+    width tokens count build initially tab all largest least howMany lowest one
 all-hold = tt
 
 twelve : length cases ≡ 12

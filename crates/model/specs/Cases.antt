@@ -7,24 +7,39 @@ use lib.ListN.{getD}
 use Rattle.model.specs.declared.event.Event.{Event}
 use Rattle.model.specs.declared.event.Event.the-variants as event
 use Rattle.model.specs.Answer.{numberOfStanding}
+use Rattle.model.specs.Tab.{howMany}
+use Rattle.model.specs.Limits.{transitionLimit}
 use Rattle.model.specs.Net.{Net, State, initially}
-use Rattle.model.specs.Rules.{apply, back}
-use Rattle.model.specs.Run.{Told, Single, single, run}
-use Rattle.model.specs.Owed.{standingOf}
+use Rattle.model.specs.Rules.{apply, back, degree}
+use Rattle.model.specs.Run.{Told, Single, single, run, walk}
+use Rattle.model.specs.Owed.{standingOf, Report, owed}
 
 -- WHAT A CASE IS
 
--- a run from a state, and the standing that it leaves; a single event; a single event taken back
+-- a run from a state, and the standing that it leaves; a walk back over the last n events; a single event; a single event
+-- taken back; the degree of a transition; what is owed
 pub data Case : Type 0 where
   runs : Net → State → List Event → Told → ℕ → Case
+  walks : Net → State → List Event → ℕ → Told → Case
   does : Net → State → Event → Single → Case
   undoes : Net → State → Event → Single → Case
+  has-degree : Net → State → ℕ → ℕ → Case
+  owes : Net → State → List ℕ → Case
+
+-- of the starts that are owed, and then of the ends: how many of 64 transitions, how many of the net's, the lowest; and the standing
+abbrev pub digest : Report → List ℕ
+digest r =
+    howMany transitionLimit (r .starts) ∷ r .start-count ∷ r .lowest-start
+    ∷ howMany transitionLimit (r .ends) ∷ r .end-count ∷ r .lowest-end ∷ numberOfStanding (r .standing) ∷ []
 
 -- the case is answered so: number, index, events done, ticks, the whole state
 abbrev pub Holds : Case → Type 0
 Holds (runs N S es r s) = (run N S es ≡ r) × (numberOfStanding (standingOf N (r .state)) ≡ s)
+Holds (walks N S′ es n r) = walk N S′ es n ≡ r
 Holds (does N S e r) = single S (apply N S e) ≡ r
 Holds (undoes N S′ e r) = single S′ (back N S′ e) ≡ r
+Holds (has-degree N S t n) = degree N S t ≡ n
+Holds (owes N S r) = digest (owed N S) ≡ r
 
 -- NETS AND STATES
 
@@ -125,23 +140,46 @@ cases =
 abbrev pub caseAt : List Case → ℕ → Case
 caseAt cs k = getD cs k (does row first tick (answers 18 first))
 
--- cases that document 01 does not mark K: a log with no events; a start that cannot have been, since place 0 would have held
--- 65,536; 11 and 12, done and taken back; and, over the heavy net, weights above 1, ends of two firings that differ only in
--- age, and a start while an end is owed
+-- cases that document 01 does not mark K
 unfoldable pub furtherCases : List Case
 furtherCases =
+    -- a log with no events
     runs row first [] (told 0 0 0 0 (state (marks 1 0 0) none none)) 1
-    ∷ undoes row (state (marks 65535 0 0) (ages 1 0 0 0) none) (start 0) (answers 21 (state (marks 65535 0 0) (ages 1 0 0 0) none))
+    -- 11 and 12, done and taken back
     ∷ does row full event.Malformed (answers 11 full)
     ∷ does row full (start 2) (answers 12 full)
     ∷ undoes row full event.Malformed (answers 11 full)
     ∷ undoes row full (end 2 0) (answers 12 full)
+    -- a start taken back, and one that cannot have been: place 0 would have held 65,536
+    ∷ undoes row (state (marks 0 0 0) (ages 1 0 0 0) none) (start 0) (answers 0 (state (marks 1 0 0) none none))
+    ∷ undoes row (state (marks 65535 0 0) (ages 1 0 0 0) none) (start 0) (answers 21 (state (marks 65535 0 0) (ages 1 0 0 0) none))
+    -- a tick taken back, and two that cannot have been: a firing has age 0; the marking enables transition 0
+    ∷ undoes row (loaded 0) tick (answers 0 (state (marks 0 0 0) (ages 1 0 0 0) none))
+    ∷ undoes row (state (marks 0 0 0) (ages 1 1 0 0) none) tick (answers 21 (state (marks 0 0 0) (ages 1 1 0 0) none))
+    ∷ undoes row (state (marks 1 0 0) (ages 0 1 0 0) none) tick (answers 21 (state (marks 1 0 0) (ages 0 1 0 0) none))
+    -- weights above 1: a place one short; the count full and nearly so; an end taken back, one token short, and with a full count
     ∷ does heavy (laden 1 0 0 0 0) (start 0) (answers 13 (laden 1 0 0 0 0))
     ∷ does heavy (laden 5 0 65534 0 0) (start 0) (answers 0 (laden 3 0 65535 0 0))
     ∷ does heavy (laden 5 0 65535 0 0) (start 0) (answers 14 (laden 5 0 65535 0 0))
     ∷ undoes heavy (laden 0 3 0 0 0) (end 0 2) (answers 0 (laden 0 0 0 0 1))
     ∷ undoes heavy (laden 0 2 0 0 0) (end 0 2) (answers 21 (laden 0 2 0 0 0))
+    ∷ undoes heavy (laden 0 3 0 0 65535) (end 0 2) (answers 21 (laden 0 3 0 0 65535))
+    -- two firings that differ only in age
     ∷ runs heavy (laden 3 0 0 1 0) (start 0 ∷ tick ∷ end 0 1 ∷ []) (told 0 3 3 1 (laden 1 3 0 0 1)) 2
     ∷ runs heavy (laden 3 0 0 1 0) (start 0 ∷ tick ∷ end 0 2 ∷ []) (told 0 3 3 1 (laden 1 3 0 1 0)) 3
+    -- a start while an end is owed
     ∷ runs heavy (laden 2 0 0 0 1) (start 0 ∷ tick ∷ []) (told 19 1 1 0 (laden 0 0 1 0 1)) 2
+    -- walks: over all of a log, over its last two events, over none, over more than it has, and one that is refused on its way
+    ∷ walks row full log 5 (told 0 0 5 1 (state (marks 1 0 0) none none))
+    ∷ walks row full log 2 (told 0 3 2 0 (state (marks 0 1 0) none none))
+    ∷ walks row full log 0 (told 0 5 0 0 full)
+    ∷ walks row full log 6 (told 22 0 0 0 full)
+    ∷ walks row (state (marks 0 0 0) (ages 0 0 1 0) none) (start 1 ∷ start 0 ∷ tick ∷ []) 3 (told 21 1 1 1 (loaded 0))
+    -- degrees
+    ∷ has-degree heavy (laden 5 0 0 0 0) 0 2
+    ∷ has-degree heavy (laden 1 0 0 0 0) 0 0
+    -- nothing owed; two starts owed; a start and an end owed
+    ∷ owes row full (0 ∷ 0 ∷ 64 ∷ 0 ∷ 0 ∷ 64 ∷ 4 ∷ [])
+    ∷ owes row (state (marks 1 1 0) none none) (2 ∷ 2 ∷ 0 ∷ 0 ∷ 0 ∷ 64 ∷ 1 ∷ [])
+    ∷ owes heavy (laden 2 0 0 0 1) (1 ∷ 1 ∷ 0 ∷ 1 ∷ 1 ∷ 0 ∷ 1 ∷ [])
     ∷ []
