@@ -10,11 +10,11 @@ use Rattle.model.specs.declared.event.Event.the-variants as event
 use Rattle.model.specs.declared.answer.Refusal.the-variants as refusal
 use Rattle.model.specs.Limits.{Held, tokenLimit}
 use Rattle.model.specs.Net.{Net, State, Lawful, width, count}
-use Rattle.model.specs.Moves.{NoStartOwed, NothingRunning, Timely, Fits, Starts, Ends, Ticks, Moves}
+use Rattle.model.specs.Moves.{NoStartOwed, NothingRunning, Timely, HasRoom, Starts, Ends, Ticks, Moves}
 use Rattle.model.specs.Rules.{done, apply, back, Covers, NoneFresh, unstarted, unended, unticked}
 use Rattle.model.proofs.Tab.{below-or-past, one-here, one-off, one-le, one-room}
 use Rattle.model.proofs.Tests.{leb-tells, ltb-tells, not-tells, held-tells, timely-tells, no-start-owed-tells}
-use Rattle.model.proofs.Tests.{nothing-running-tells, fits-tells, covers-tells, none-fresh-tells, unless-done, done-is, never}
+use Rattle.model.proofs.Tests.{nothing-running-tells, has-room-tells, covers-tells, none-fresh-tells, unless-done, done-is, never}
 use Rattle.model.proofs.Shape.{lfd-fits, width-pos, build-shaped, tokens-build, count-build, count-past, built}
 use Rattle.model.proofs.Forward.{apply-exact}
 use Rattle.model.proofs.Lawful.{zero-past-lfd, zero-from-lfd, held-past, moves-lawful}
@@ -23,12 +23,12 @@ module _ (N : Net) (S′ S : State) where
   -- what lets `back` take an event back, test by test
   start-passes : (t : ℕ) → (back N S′ (event.Start t) ≡ done S)
       ↔ ((t < N .transitions) × ((1 ≤ count S′ t 0)
-      × (Fits N S′ (N .takes t) × (unstarted N S′ t ≡ S))))
+      × (HasRoom N S′ (N .takes t) × (unstarted N S′ t ≡ S))))
   unfolding back
   start-passes t =
       unless-done refusal.NoSuchTransition (ltb-tells t (N .transitions))
       (unless-done refusal.NoStateBefore (leb-tells 1 (count S′ t 0))
-      (unless-done refusal.NoStateBefore (fits-tells N S′ (N .takes t)) (done-is (unstarted N S′ t) S)))
+      (unless-done refusal.NoStateBefore (has-room-tells N S′ (N .takes t)) (done-is (unstarted N S′ t) S)))
 
   end-passes : (t : ℕ) (age : Age) → (back N S′ (event.End t age) ≡ done S)
       ↔ ((t < N .transitions) × (Timely N t (age .0)
@@ -51,7 +51,7 @@ module _ (N : Net) (S′ S : State) where
 -- THE STATE THAT `back` BUILDS IS LAWFUL, AND THE EVENT LEADS FROM IT
 
 module _ (N : Net) (S′ : State) (s′ : Lawful N S′) where
-  from-unstarted : (t : ℕ) → t < N .transitions → 1 ≤ count S′ t 0 → Fits N S′ (N .takes t)
+  from-unstarted : (t : ℕ) → t < N .transitions → 1 ≤ count S′ t 0 → HasRoom N S′ (N .takes t)
       → Lawful N (unstarted N S′ t) × Starts N (unstarted N S′ t) t S′
   unfolding unstarted
   from-unstarted t l a r = (
@@ -209,8 +209,8 @@ apply-injective N e S₁ S₂ S′ s₁ s₂ d₁ d₂ =
     cc
 
 -- lawful states stay lawful, forward and back
-pub apply-lawful : (N : Net) (e : Event) (S S′ : State) → Lawful N S → apply N S e ≡ done S′ → Lawful N S′
-apply-lawful N e S S′ s d = moves-lawful e s (apply-exact N S e S′ .0 d)
+pub apply-lawful : (N : Net) (S : State) (e : Event) (S′ : State) → Lawful N S → apply N S e ≡ done S′ → Lawful N S′
+apply-lawful N S e S′ s d = moves-lawful e s (apply-exact N S e S′ .0 d)
 
-pub back-lawful : (N : Net) (e : Event) (S S′ : State) → Lawful N S′ → back N S′ e ≡ done S → Lawful N S
-back-lawful N e S S′ s′ d = back-undoes N S′ s′ e S .0 d .0
+pub back-lawful : (N : Net) (S′ : State) (e : Event) (S : State) → Lawful N S′ → back N S′ e ≡ done S → Lawful N S
+back-lawful N S′ e S s′ d = back-undoes N S′ s′ e S .0 d .0

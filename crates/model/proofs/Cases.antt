@@ -4,18 +4,17 @@
 use mathlib.Core.Path.{_≡_, refl, ap₂}
 use mathlib.Core.Bool.{Bool, true, false, _&&_}
 use mathlib.Core.List.{List, [], _∷_}
-use Prim.Native.Nat.{ℕ, zero, suc, _<_}
-use native.Mathlib.Nat.{le-of-suc-le-suc, not-suc-le-zero}
+use Prim.Native.Nat.{ℕ}
 use lib.Dec.{T, eqb, eqb→eq}
 use lib.ListN.{length, getD}
 use Rattle.model.specs.Answer.{numberOfStanding}
 use Rattle.model.specs.Tab.{tab, all, largest, least, howMany, lowest, one}
-use Rattle.model.specs.Net.{width, State, tokens, count, build, initially}
-use Rattle.model.specs.Rules.{enabled?, no-start-owed?, no-end-owed?, nothing-running?, timely?, fits?, covers?, none-fresh?}
-use Rattle.model.specs.Rules.{older, started, ended, ticked, unstarted, unended, unticked, apply, back, share, degree}
+use Rattle.model.specs.Net.{width, State, tokens, count, build, initialState}
+use Rattle.model.specs.Rules.{enabled?, no-start-owed?, no-end-owed?, nothing-running?, timely?, has-room?, covers?, none-fresh?}
+use Rattle.model.specs.Rules.{older, started, ended, ticked, unstarted, unended, unticked, apply, back, times, degree}
 use Rattle.model.specs.Run.{Told, Single, single, inTurn, run, walkBack, walk}
 use Rattle.model.specs.Owed.{owes-start?, owes-end?, standingOf, owed}
-use Rattle.model.specs.Cases.{row, heavy, Case, runs, walks, does, undoes, has-degree, owes, digest, Holds, cases, furtherCases, caseAt}
+use Rattle.model.specs.Cases.{childrensRow, heavy, slowMiddle, Case, runs, walks, does, undoes, has-degree, has-width, owes, digest, Holds, AllHold, cases, furtherCases}
 
 -- TESTS OF EQUALITY
 
@@ -89,19 +88,13 @@ every : {A : Type 0} → (A → Bool) → List A → Bool
 every f [] = true
 every f (x ∷ xs) = f x && every f xs
 
--- a test that passes all along a list passes at each of its places
-every-at : {A : Type 0} (f : A → Bool) (xs : List A) (d : A) → T (every f xs) → (k : ℕ) → k < length xs → T (f (getD xs k d))
-unfolding every
-every-at f [] d t k h = absurd (not-suc-le-zero h)
-every-at f (x ∷ xs) d t zero h = both (f x) (every f xs) t .0
-every-at f (x ∷ xs) d t (suc k) h = every-at f xs d (both (f x) (every f xs) t .1) k (le-of-suc-le-suc h)
-
 holds? : Case → Bool
 holds? (runs N S es r s) = sameTold (run N S es) r && eqb (numberOfStanding (standingOf N (r .state))) s
 holds? (walks N S′ es n r) = sameTold (walk N S′ es n) r
 holds? (does N S e r) = sameSingle (single S (apply N S e)) r
 holds? (undoes N S′ e r) = sameSingle (single S′ (back N S′ e)) r
 holds? (has-degree N S t n) = eqb (degree N S t) n
+holds? (has-width N d) = eqb (width N) d
 holds? (owes N S r) = sameList eqb (digest (owed N S)) r
 
 holds-sound : (c : Case) → T (holds? c) → Holds c
@@ -113,28 +106,27 @@ holds-sound (walks N S′ es n r) t = sameTold-sound _ _ t
 holds-sound (does N S e r) t = sameSingle-sound _ _ t
 holds-sound (undoes N S′ e r) t = sameSingle-sound _ _ t
 holds-sound (has-degree N S t n) h = eqb→eq _ _ h
+holds-sound (has-width N d) h = eqb→eq _ _ h
 holds-sound (owes N S r) t = sameList-sound eqb eqb→eq _ _ t
 
+-- a test that passes all along a table is a proof of each case
+every-sound : (cs : List Case) → T (every holds? cs) → AllHold cs
+unfolding every AllHold
+every-sound [] t = tt
+every-sound (c ∷ cs) t = let (h, r) = both (holds? c) (every holds? cs) t in (holds-sound c h, every-sound cs r)
+
 all-hold : T (every holds? cases && every holds? furtherCases)
-unfolding every holds? sameTold sameSingle sameState sameList numbers cases furtherCases row heavy
-    run walk walkBack inTurn owed owes-start? owes-end? standingOf degree share apply back started ended ticked unstarted unended unticked older
-    enabled? no-start-owed? no-end-owed? nothing-running? timely? fits? covers? none-fresh?
-    width tokens count build initially tab all largest least howMany lowest one
+unfolding every holds? sameTold sameSingle sameState sameList numbers cases furtherCases childrensRow heavy slowMiddle
+    run walk walkBack inTurn owed owes-start? owes-end? standingOf degree times apply back started ended ticked unstarted unended unticked older
+    enabled? no-start-owed? no-end-owed? nothing-running? timely? has-room? covers? none-fresh?
+    width tokens count build initialState tab all largest least howMany lowest one
 all-hold = tt
 
-twelve : length cases ≡ 12
+-- there are twelve, K1 to K12, and each is answered as the table has it
+pub cases-hold : (length cases ≡ 12) × AllHold cases
 unfolding cases
-twelve = refl
+cases-hold = (refl, every-sound cases (both (every holds? cases) (every holds? furtherCases) all-hold .0))
 
--- there are twelve, K1 to K12, and case k, counted from 0, is answered as the table has it
-pub cases-hold : (length cases ≡ 12) × ((k : ℕ) → k < 12 → Holds (caseAt cases k))
-cases-hold = (
-  twelve,
-  λ k h. holds-sound (caseAt cases k)
-      (every-at holds? cases _ (both (every holds? cases) (every holds? furtherCases) all-hold .0) k (rw twelve h)),
-)
-
-pub further-hold : (k : ℕ) → k < length furtherCases → Holds (caseAt furtherCases k)
-further-hold k h =
-    holds-sound (caseAt furtherCases k)
-    (every-at holds? furtherCases _ (both (every holds? cases) (every holds? furtherCases) all-hold .1) k h)
+pub further-hold : (length furtherCases ≡ 38) × AllHold furtherCases
+unfolding furtherCases
+further-hold = (refl, every-sound furtherCases (both (every holds? cases) (every holds? furtherCases) all-hold .1))

@@ -1,6 +1,6 @@
 -- The degree that is computed is the degree of Definition 4, which is the largest number of times that a transition is enabled.
 -- Assumes nothing.
-use mathlib.Core.Path.{_≡_}
+use mathlib.Core.Path.{_≡_, sym, subst}
 use mathlib.Core.Logic.{_↔_}
 use Prim.Native.Nat.{ℕ, zero, suc, _*_, _<_, _≤_, min}
 use native.Mathlib.Nat.{le-div-iff-mul-le, le-mul-of-pos-right, mul-le-mul-right, not-suc-le-zero}
@@ -9,7 +9,7 @@ use Rattle.model.specs.Tab.{least}
 use Rattle.model.specs.Limits.{tokenLimit}
 use Rattle.model.specs.Net.{Net, Proper, State, Lawful, tokens}
 use Rattle.model.specs.Moves.{Enabled, Lacking, Degree}
-use Rattle.model.specs.Rules.{share, degree}
+use Rattle.model.specs.Rules.{times, degree}
 use Rattle.model.proofs.Tab.{below-suc}
 use Rattle.model.proofs.Tests.{leb-tells, some-fails}
 
@@ -26,10 +26,10 @@ le-least top zero f k h each = h
 le-least top (suc n) f k h each =
     omega (arith, each n (omega arith), le-least top n f k h (λ i b. each i (omega arith)))
 
-share-is : (n w m : ℕ) → n ≤ tokenLimit → (n ≤ share w m) ↔ (n * w ≤ m)
-unfolding share
-share-is n zero m h = ((λ _. omega arith), λ _. h)
-share-is n (suc w) m h = le-div-iff-mul-le (omega arith)
+times-is : (n w m : ℕ) → n ≤ tokenLimit → (n ≤ times w m) ↔ (n * w ≤ m)
+unfolding times
+times-is n zero m h = ((λ _. omega arith), λ _. h)
+times-is n (suc w) m h = le-div-iff-mul-le (omega arith)
 
 module _ (N : Net) (S : State) (t : ℕ) where
   -- t is not enabled n times exactly where some place lacks tokens for it
@@ -47,14 +47,14 @@ module _ (N : Net) (S : State) (t : ℕ) where
   pub degree-tells : (n : ℕ) → n ≤ tokenLimit → (n ≤ degree N S t) ↔ Enabled N S t n
   unfolding degree
   degree-tells n h =
-      let shares : ℕ → ℕ = λ p. share (N .takes t p) (tokens S p) in (
-        (λ l p b. share-is n (N .takes t p) (tokens S p) h .0 (omega (arith, least-le tokenLimit (N .places) shares .1 p b))),
-        λ en. le-least tokenLimit (N .places) shares n h (λ p b. share-is n (N .takes t p) (tokens S p) h .1 (en p b)),
+      let shares : ℕ → ℕ = λ p. times (N .takes t p) (tokens S p) in (
+        (λ l p b. times-is n (N .takes t p) (tokens S p) h .0 (omega (arith, least-le tokenLimit (N .places) shares .1 p b))),
+        λ en. le-least tokenLimit (N .places) shares n h (λ p b. times-is n (N .takes t p) (tokens S p) h .1 (en p b)),
       )
 
   degree-le : degree N S t ≤ tokenLimit
   unfolding degree
-  degree-le = least-le tokenLimit (N .places) (λ p. share (N .takes t p) (tokens S p)) .0
+  degree-le = least-le tokenLimit (N .places) (λ p. times (N .takes t p) (tokens S p)) .0
 
   -- Definition 4
   pub degree-is : Proper N → Lawful N S → t < N .transitions → Degree N S t (degree N S t)
@@ -77,3 +77,11 @@ module _ (N : Net) (S : State) (t : ℕ) where
   -- so there is one degree
   pub degree-once : (m n : ℕ) → Degree N S t m → Degree N S t n → m ≡ n
   degree-once m n a b = omega (arith, degree-largest m a n (b .0), degree-largest n b m (a .0))
+
+-- the degree that is computed is Definition 4's, and no other number is
+pub degree-exact : (N : Net) → Proper N → (S : State) → Lawful N S → (t : ℕ) → t < N .transitions → (n : ℕ)
+    → (n ≡ degree N S t) ↔ Degree N S t n
+degree-exact N proper S s t l n = (
+  (λ e. subst (Degree N S t) (sym e) (degree-is N S t proper s l)),
+  λ d. degree-once N S t n (degree N S t) d (degree-is N S t proper s l),
+)

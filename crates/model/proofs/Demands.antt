@@ -1,25 +1,34 @@
 -- The demands hold of every net. Each field cites the theorem that carries it.
 -- Assumes nothing.
 use mathlib.Core.Path.{sym, subst}
-use Rattle.model.specs.Net.{Net}
+use mathlib.Core.Logic.{Iff·trans}
+use Rattle.model.specs.declared.answer.Standing.the-variants as standing
+use Rattle.model.specs.Net.{Net, IsWidth, width}
 use Rattle.model.specs.Run.{Ran, Walked}
 use Rattle.model.specs.Owed.{Reports}
 use Rattle.model.specs.Demands.{Demand2, Demand3, StaysLawful}
+use Rattle.model.proofs.Shape.{width-is, width-once, initial-exact}
+use Rattle.model.proofs.Degree.{degree-exact}
 use Rattle.model.proofs.Forward.{apply-exact}
-use Rattle.model.proofs.Lawful.{initially-lawful}
+use Rattle.model.proofs.Lawful.{initial-lawful}
 use Rattle.model.proofs.Back.{back-exact, apply-lawful, back-lawful, apply-injective}
 use Rattle.model.proofs.Refusals.{apply-refuses, back-refuses}
-use Rattle.model.proofs.Run.{run-exact, run-ran, ran-only}
+use Rattle.model.proofs.Run.{leads-lawful, run-accepted, run-exact, run-ran, ran-only}
 use Rattle.model.proofs.Walk.{walk-exact, walk-back, walk-walked, walked-only}
-use Rattle.model.proofs.Owed.{owed-reports, reports-once}
+use Rattle.model.proofs.Owed.{owed-reports, reports-once, owed-standing, free-to-tick}
 
 pub demand-2 : (N : Net) → Demand2 N
 demand-2 N = record {
+  width-is = λ h d. ((λ e. subst (IsWidth N) (sym e) (width-is N h)), λ w. width-once N d (width N) w (width-is N h));
+  initial-is = initial-exact N;
+  degree-is = degree-exact N;
   event-accepted = apply-exact N;
   event-refused = apply-refuses N;
-  log-accepted = run-exact N;
+  log-accepted = run-accepted N;
+  log-leads = run-exact N;
   log-told = λ S es r. ((λ e. subst (Ran N S es) (sym e) (run-ran N S es)), ran-only N S es r);
   owed-told = λ S r. ((λ e. subst (Reports N S) (sym e) (owed-reports N S)), λ h. reports-once N S h (owed-reports N S));
+  free-to-tick = λ S. Iff·trans (owed-standing N S standing.FreeToTick) (free-to-tick N S);
 }
 
 pub demand-3 : (N : Net) → Demand3 N
@@ -42,7 +51,8 @@ demand-3 N = record {
 
 pub stays-lawful : (N : Net) → StaysLawful N
 stays-lawful N = record {
-  at-first = initially-lawful N;
-  forward = λ S S′ e. apply-lawful N e S S′;
-  backward = λ S′ S e. back-lawful N e S S′;
+  at-first = initial-lawful N;
+  forward = apply-lawful N;
+  backward = back-lawful N;
+  after-run = λ S es s. leads-lawful s (run-ran N S es .led);
 }

@@ -23,8 +23,8 @@ use Rattle.model.proofs.net.Net.new.Reads as net-new
 use Rattle.model.proofs.net.Net.new.Kinds as net-new-kinds
 use Rattle.model.proofs.net.Net.sized.Reads as net-sized
 use Rattle.model.proofs.net.Net.sized.Kinds as net-sized-kinds
-use Rattle.model.proofs.net.Net.timed.Reads as net-timed
-use Rattle.model.proofs.net.Net.timed.Kinds as net-timed-kinds
+use Rattle.model.proofs.net.Net.is_interval.Reads as net-is-interval
+use Rattle.model.proofs.net.Net.is_interval.Kinds as net-is-interval-kinds
 use Rattle.model.proofs.net.Net.logged.Reads as net-logged
 use Rattle.model.proofs.net.Net.logged.Kinds as net-logged-kinds
 use Rattle.model.proofs.net.Net.held.Reads as net-held
@@ -60,8 +60,8 @@ net-new-determined κs args x y s s′ p q = p ∙ sym q
 pub net-sized-determined : Determined 0 net-sized-kinds.ps net-sized-kinds.r net-sized.Learnt
 net-sized-determined κs args x y s s′ p q = p ∙ sym q
 
-pub net-timed-determined : Determined 0 net-timed-kinds.ps net-timed-kinds.r net-timed.Learnt
-net-timed-determined κs args x y s s′ p q = p ∙ sym q
+pub net-is-interval-determined : Determined 0 net-is-interval-kinds.ps net-is-interval-kinds.r net-is-interval.Learnt
+net-is-interval-determined κs args x y s s′ p q = p ∙ sym q
 
 pub net-logged-determined : Determined 0 net-logged-kinds.ps net-logged-kinds.r net-logged.Learnt
 net-logged-determined κs args x y s s′ p q = p ∙ sym q

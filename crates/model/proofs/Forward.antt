@@ -10,11 +10,11 @@ use Rattle.model.specs.declared.event.Event.the-variants as event
 use Rattle.model.specs.declared.answer.Refusal.the-variants as refusal
 use Rattle.model.specs.Limits.{Held}
 use Rattle.model.specs.Net.{Net, State, width, count}
-use Rattle.model.specs.Moves.{Enabled, NoStartOwed, NoEndOwed, NothingRunning, Timely, Fits, Starts, Ends, Ticks, Moves}
+use Rattle.model.specs.Moves.{Enabled, NoStartOwed, NoEndOwed, NothingRunning, Timely, HasRoom, Starts, Ends, Ticks, Moves}
 use Rattle.model.specs.Rules.{done, apply, started, ended, ticked, older}
 use Rattle.model.proofs.Tab.{one-le}
 use Rattle.model.proofs.Tests.{leb-tells, ltb-tells, not-tells, held-tells, timely-tells, enabled-tells, no-start-owed-tells}
-use Rattle.model.proofs.Tests.{no-end-owed-tells, nothing-running-tells, fits-tells, unless-done, done-is, never}
+use Rattle.model.proofs.Tests.{no-end-owed-tells, nothing-running-tells, has-room-tells, unless-done, done-is, never}
 use Rattle.model.proofs.Shape.{width-pos, build-shaped, tokens-build, count-build, built}
 
 module _ (N : Net) (S S′ : State) where
@@ -29,13 +29,13 @@ module _ (N : Net) (S S′ : State) where
 
   end-passes : (t : ℕ) (age : Age) → (apply N S (event.End t age) ≡ done S′)
       ↔ ((t < N .transitions) × (Timely N t (age .0)
-      × ((1 ≤ count S t (age .0)) × (Fits N S (N .gives t) × (ended N S t (age .0) ≡ S′)))))
+      × ((1 ≤ count S t (age .0)) × (HasRoom N S (N .gives t) × (ended N S t (age .0) ≡ S′)))))
   unfolding apply
   end-passes t age =
       unless-done refusal.NoSuchTransition (ltb-tells t (N .transitions))
       (unless-done refusal.OutsideInterval (timely-tells N t (age .0))
       (unless-done refusal.NoneOfThatAge (leb-tells 1 (count S t (age .0)))
-      (unless-done refusal.PlaceFull (fits-tells N S (N .gives t)) (done-is (ended N S t (age .0)) S′))))
+      (unless-done refusal.PlaceFull (has-room-tells N S (N .gives t)) (done-is (ended N S t (age .0)) S′))))
 
   tick-passes : (apply N S event.Tick ≡ done S′)
       ↔ (NoStartOwed N S × (NoEndOwed N S × ((¬ NothingRunning N S) × (ticked N S ≡ S′))))
@@ -59,7 +59,7 @@ module _ (N : Net) (S : State) where
   }
 
   ends : (t j : ℕ) → t < N .transitions → Timely N t j → 1 ≤ count S t j
-      → Fits N S (N .gives t) → Ends N S t j (ended N S t j)
+      → HasRoom N S (N .gives t) → Ends N S t j (ended N S t j)
   unfolding ended
   ends t j l i a r = record {
     known = l;

@@ -6,7 +6,7 @@ use native.Mathlib.Omega.{arith}
 use Rattle.model.specs.declared.event.Event.{Event}
 use Rattle.model.specs.declared.event.Event.the-variants as event
 use Rattle.model.specs.Limits.{Held, tokenLimit}
-use Rattle.model.specs.Net.{Net, Proper, State, Lawful, width, count, initially}
+use Rattle.model.specs.Net.{Net, Proper, State, Lawful, width, count, initialState}
 use Rattle.model.specs.Moves.{Starts, Ends, Ticks, Moves}
 use Rattle.model.proofs.Tab.{at-or-below, below-or-past, one-off, one-room}
 use Rattle.model.proofs.Shape.{build-shaped, tokens-build, count-build, count-past}
@@ -67,11 +67,11 @@ moves-lawful (event.End t age) = ends-lawful
 moves-lawful event.Malformed = λ s m. absurd m
 
 -- a net's initial state is lawful
-pub initially-lawful : (N : Net) → Proper N → Lawful N (initially N)
-unfolding initially
-initially-lawful N proper = record {
+pub initial-lawful : (N : Net) → Proper N → Lawful N (initialState N)
+unfolding initialState
+initial-lawful N proper = record {
   shaped = build-shaped N _ _;
   none-past-lfd = λ t j b c h. count-build N _ _ t j b c;
-  tokens-fit = λ p b. rw tokens-build (proper .marked p b);
+  tokens-fit = λ p b. rw tokens-build (proper .initial-held p b);
   counts-fit = λ t j b c. rw count-build (omega arith);
 }

@@ -1,5 +1,6 @@
 pub mod Tab
 pub mod Tests
+pub mod Ages
 pub mod Shape
 pub mod Forward
 pub mod Lawful
@@ -14,3 +15,4 @@ pub mod Owed
 pub mod Determined
 pub mod Demands
 pub mod Cases
+pub mod Edges

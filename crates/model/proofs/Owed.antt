@@ -9,11 +9,10 @@ use Rattle.model.specs.declared.event.Event.the-variants as event
 use Rattle.model.specs.declared.answer.Standing.{Standing}
 use Rattle.model.specs.declared.answer.Standing.the-variants as standing
 use Rattle.model.specs.Tab.{Tells, howMany, lowest}
-use Rattle.model.specs.Limits.{transitionLimit}
 use Rattle.model.specs.Net.{Net, State, count}
 use Rattle.model.specs.Moves.{NoStartOwed, NoEndOwed}
 use Rattle.model.specs.Rules.{ticked, apply, done}
-use Rattle.model.specs.Owed.{OwesStart, owes-start?, OwesEnd, owes-end?, Numbers, Lowest, Stands, standingOf, Report, Reports, owed}
+use Rattle.model.specs.Owed.{OwesStart, owes-start?, OwesEnd, owes-end?, HowMany, wordBits, Lowest, Stands, standingOf, Report, Reports, owed}
 use Rattle.model.proofs.Tab.{both-tell, below-or-past, at-or-below}
 use Rattle.model.proofs.Tests.{leb-tells, ltb-tells, enabled-tells, no-start-owed-tells, no-end-owed-tells}
 use Rattle.model.proofs.Tests.{nothing-running-tells, decide, told-true, told-false, tells-once}
@@ -22,19 +21,19 @@ use Rattle.model.proofs.Forward.{ticks, apply-exact}
 -- OF ANY SET THAT A TEST TELLS
 
 module _ {f : ℕ → Bool} {A : ℕ → Type 0} (each : (i : ℕ) → Tells (f i) (A i)) where
-  pub how-many-is : (n : ℕ) → Numbers A n (howMany n f)
+  pub how-many-is : (n : ℕ) → HowMany A n (howMany n f)
   unfolding howMany
-  how-many-is zero = Numbers.none
+  how-many-is zero = HowMany.none
   how-many-is (suc n) =
       decide (each n)
-      (λ a. rw (told-true (each n) a) (Numbers.one-more a (how-many-is n)))
-      (λ a. rw (told-false (each n) a) (Numbers.no-more a (how-many-is n)))
+      (λ a. rw (told-true (each n) a) (HowMany.one-more a (how-many-is n)))
+      (λ a. rw (told-false (each n) a) (HowMany.no-more a (how-many-is n)))
 
   -- l is the lowest from n on and below m, or 64 where there is none
   LowestFrom : ℕ → ℕ → ℕ → Type 0
   LowestFrom n m l =
       ((l < m) × (n ≤ l) × A l × ((i : ℕ) → n ≤ i → i < l → ¬ A i))
-      ⊎ ((l ≡ transitionLimit) × ((i : ℕ) → n ≤ i → i < m → ¬ A i))
+      ⊎ ((l ≡ wordBits) × ((i : ℕ) → n ≤ i → i < m → ¬ A i))
 
   lower : (n m l : ℕ) → n < m → LowestFrom (suc n) m l → (b : Bool) → Tells b (A n) → LowestFrom n m (cond b n l)
   unfolding LowestFrom
@@ -53,20 +52,20 @@ module _ {f : ℕ → Bool} {A : ℕ → Type 0} (each : (i : ℕ) → Tells (f 
   descend zero m l h so-far = so-far
   descend (suc n) m l h so-far = descend n m (cond (f n) n l) (omega arith) (lower n m l (omega arith) so-far (f n) (each n))
 
-  pub lowest-is : (m : ℕ) → Lowest A m (lowest transitionLimit m f)
+  pub lowest-is : (m : ℕ) → Lowest A m (lowest wordBits m f)
   unfolding LowestFrom
-  lowest-is m = elim (descend m m transitionLimit (omega arith) (inr (refl, λ i p q. absurd (omega arith)))) [
+  lowest-is m = elim (descend m m wordBits (omega arith) (inr (refl, λ i p q. absurd (omega arith)))) [
     | inl (b, o, here, none) ↦ Lowest.found b here (λ i q. none i (omega arith) q)
     | inr (e, none) ↦ rw e (Lowest.empty (λ i q. none i (omega arith) q))
   ]
 
 -- two numbers, or two lowest ones, of one set are equal
-pub numbers-once : {A : ℕ → Type 0} {n k l : ℕ} → Numbers A n k → Numbers A n l → k ≡ l
-numbers-once Numbers.none Numbers.none = refl
-numbers-once (Numbers.one-more a s) (Numbers.one-more b t) = ap suc (numbers-once s t)
-numbers-once (Numbers.one-more a s) (Numbers.no-more b t) = absurd (b a)
-numbers-once (Numbers.no-more a s) (Numbers.one-more b t) = absurd (a b)
-numbers-once (Numbers.no-more a s) (Numbers.no-more b t) = numbers-once s t
+pub how-many-once : {A : ℕ → Type 0} {n k l : ℕ} → HowMany A n k → HowMany A n l → k ≡ l
+how-many-once HowMany.none HowMany.none = refl
+how-many-once (HowMany.one-more a s) (HowMany.one-more b t) = ap suc (how-many-once s t)
+how-many-once (HowMany.one-more a s) (HowMany.no-more b t) = absurd (b a)
+how-many-once (HowMany.no-more a s) (HowMany.one-more b t) = absurd (a b)
+how-many-once (HowMany.no-more a s) (HowMany.no-more b t) = how-many-once s t
 
 pub lowest-once : {A : ℕ → Type 0} {n k l : ℕ} → Lowest A n k → Lowest A n l → k ≡ l
 lowest-once {k} {l} (Lowest.found p a none) (Lowest.found q b none′) =
@@ -161,13 +160,18 @@ module _ (N : Net) (S : State) where
     standing-is = standing-stands;
   }
 
+  -- the standing that is reported is the first that holds
+  pub owed-standing : (s : Standing) → (owed N S .standing ≡ s) ↔ Stands N S s
+  unfolding owed
+  owed-standing = standing-exact
+
   -- and nothing else could be reported
   pub reports-once : {r r′ : Report} → Reports N S r → Reports N S r′ → r ≡ r′
   reports-once a b = λ i. record {
     starts = λ t. tells-once (a .starts-are t) (b .starts-are t) i;
     ends = λ t. tells-once (a .ends-are t) (b .ends-are t) i;
-    start-count = numbers-once (a .start-count-is) (b .start-count-is) i;
-    end-count = numbers-once (a .end-count-is) (b .end-count-is) i;
+    start-count = how-many-once (a .start-count-is) (b .start-count-is) i;
+    end-count = how-many-once (a .end-count-is) (b .end-count-is) i;
     lowest-start = lowest-once (a .lowest-start-is) (b .lowest-start-is) i;
     lowest-end = lowest-once (a .lowest-end-is) (b .lowest-end-is) i;
     standing = stands-once (a .standing-is) (b .standing-is) i;

@@ -13,7 +13,7 @@ use Rattle.model.specs.Moves.{Moves}
 use Rattle.model.specs.Refusals.{Unfit, Fit, Refuses, Barred}
 use Rattle.model.specs.Rules.{Outcome, done, refused, apply, back}
 use Rattle.model.proofs.Tests.{leb-tells, ltb-tells, not-tells, held-tells, timely-tells, enabled-tells, no-start-owed-tells}
-use Rattle.model.proofs.Tests.{no-end-owed-tells, nothing-running-tells, fits-tells, covers-tells, none-fresh-tells}
+use Rattle.model.proofs.Tests.{no-end-owed-tells, nothing-running-tells, has-room-tells, covers-tells, none-fresh-tells}
 use Rattle.model.proofs.Tests.{stable, never, past, fails, refusal-by}
 use Rattle.model.proofs.Back.{back-exact}
 
@@ -36,7 +36,7 @@ module _ (N : Net) (S : State) where
       (λ a q. rw q (Refuses.unfit (Unfit.no-such-end a))) (λ l.
       refusal-by refusal.OutsideInterval _ (timely-tells N t (age .0)) (λ a q. rw q (Refuses.outside-interval l a)) (λ i.
       refusal-by refusal.NoneOfThatAge _ (leb-tells 1 (count S t (age .0))) (λ a q. rw q (Refuses.none-of-that-age l i a)) (λ c.
-      refusal-by refusal.PlaceFull _ (fits-tells N S (N .gives t)) (λ a q. rw q (Refuses.place-full l i c a)) (λ _. never))))
+      refusal-by refusal.PlaceFull _ (has-room-tells N S (N .gives t)) (λ a q. rw q (Refuses.place-full l i c a)) (λ _. never))))
 
   tick-told : (why : Refusal) → apply N S event.Tick ≡ refused why → Refuses N S event.Tick why
   unfolding apply
@@ -70,7 +70,7 @@ module _ (N : Net) (S : State) where
   tells (Refuses.place-full {t} {age} l i c a) =
       past refusal.NoSuchTransition (ltb-tells t (N .transitions)) l
       (past refusal.OutsideInterval (timely-tells N t (age .0)) i
-      (past refusal.NoneOfThatAge (leb-tells 1 (count S t (age .0))) c (fails refusal.PlaceFull _ (fits-tells N S (N .gives t)) a)))
+      (past refusal.NoneOfThatAge (leb-tells 1 (count S t (age .0))) c (fails refusal.PlaceFull _ (has-room-tells N S (N .gives t)) a)))
   tells (Refuses.start-owed a) = fails refusal.StartOwed _ (no-start-owed-tells N S) a
   tells (Refuses.end-owed s a) =
       past refusal.StartOwed (no-start-owed-tells N S) s (fails refusal.EndOwed _ (no-end-owed-tells N S) a)
@@ -99,7 +99,7 @@ back-told N S′ event.Tick why =
 back-told N S′ (event.Start t) why =
     refusal-by refusal.NoSuchTransition _ (ltb-tells t (N .transitions)) (λ a q. inl (rw q (Unfit.no-such-start a))) (λ l.
     refusal-by refusal.NoStateBefore _ (leb-tells 1 (count S′ t 0)) (λ _ q. inr (l, q)) (λ _.
-    refusal-by refusal.NoStateBefore _ (fits-tells N S′ (N .takes t)) (λ _ q. inr (l, q)) (λ _. never)))
+    refusal-by refusal.NoStateBefore _ (has-room-tells N S′ (N .takes t)) (λ _ q. inr (l, q)) (λ _. never)))
 back-told N S′ (event.End t age) why =
     refusal-by refusal.NoSuchTransition _ (ltb-tells t (N .transitions)) (λ a q. inl (rw q (Unfit.no-such-end a))) (λ l.
     refusal-by refusal.NoStateBefore _ (timely-tells N t (age .0)) (λ _ q. inr (l, q)) (λ _.

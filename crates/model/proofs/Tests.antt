@@ -9,10 +9,10 @@ use native.Mathlib.Omega.{arith}
 use lib.Dec.{leb, ltb, eqb, leb→le, le→leb, eqb→eq, eqb-refl}
 use Rattle.model.specs.declared.answer.Refusal.{Refusal}
 use Rattle.model.specs.Tab.{Tells}
-use Rattle.model.specs.Limits.{Sized, sized?, Timed, timed?, Logged, logged?, Held, held?, placeLimit, transitionLimit, durationLimit, eventLimit, tokenLimit}
+use Rattle.model.specs.Limits.{Sized, sized?, IsInterval, interval?, Logged, logged?, Held, held?, placeLimit, transitionLimit, durationLimit, eventLimit, tokenLimit}
 use Rattle.model.specs.Net.{Net, State, width, tokens, count}
-use Rattle.model.specs.Moves.{Enabled, NoStartOwed, NoEndOwed, NothingRunning, Timely, Fits}
-use Rattle.model.specs.Rules.{Outcome, done, refused, unless, enabled?, no-start-owed?, no-end-owed?, nothing-running?, timely?, fits?, Covers, covers?, NoneFresh, none-fresh?}
+use Rattle.model.specs.Moves.{Enabled, NoStartOwed, NoEndOwed, NothingRunning, Timely, HasRoom}
+use Rattle.model.specs.Rules.{Outcome, done, refused, unless, enabled?, no-start-owed?, no-end-owed?, nothing-running?, timely?, has-room?, Covers, covers?, NoneFresh, none-fresh?}
 use Rattle.model.proofs.Tab.{all-tells, both-tell, below-suc}
 
 pub leb-tells : (m n : ℕ) → Tells (leb m n) (m ≤ n)
@@ -34,8 +34,8 @@ pub sized-tells : (P T : ℕ) → Tells (sized? P T) (Sized P T)
 sized-tells P T =
     both-tell (both-tell (leb-tells 1 P) (leb-tells P placeLimit)) (both-tell (leb-tells 1 T) (leb-tells T transitionLimit))
 
-pub timed-tells : (sfd lfd : ℕ) → Tells (timed? sfd lfd) (Timed sfd lfd)
-timed-tells sfd lfd = both-tell (leb-tells sfd lfd) (leb-tells lfd durationLimit)
+pub interval-tells : (sfd lfd : ℕ) → Tells (interval? sfd lfd) (IsInterval sfd lfd)
+interval-tells sfd lfd = both-tell (leb-tells sfd lfd) (leb-tells lfd durationLimit)
 
 pub logged-tells : (events : ℕ) → Tells (logged? events) (Logged events)
 logged-tells events = leb-tells events eventLimit
@@ -66,9 +66,9 @@ module _ (N : Net) (S : State) where
   unfolding nothing-running?
   nothing-running-tells = all-tells (N .transitions) (λ t. all-tells (width N) (λ j. eqb-tells (count S t j) 0))
 
-  pub fits-tells : (more : ℕ → ℕ) → Tells (fits? N S more) (Fits N S more)
-  unfolding fits?
-  fits-tells more = all-tells (N .places) (λ p. held-tells (tokens S p + more p))
+  pub has-room-tells : (more : ℕ → ℕ) → Tells (has-room? N S more) (HasRoom N S more)
+  unfolding has-room?
+  has-room-tells more = all-tells (N .places) (λ p. held-tells (tokens S p + more p))
 
   pub covers-tells : (fewer : ℕ → ℕ) → Tells (covers? N S fewer) (Covers N S fewer)
   unfolding covers?

@@ -1,4 +1,4 @@
--- The cases of document 01 over the children's row net: K1 to K12 as one table, and further cases as another.
+-- Worked examples: the cases K1 to K12 of document 01 over the children's row net as one table, and further cases as another.
 -- Assumes nothing.
 use mathlib.Core.Path.{_≡_}
 use mathlib.Core.List.{List, [], _∷_, _++_}
@@ -8,29 +8,29 @@ use Rattle.model.specs.declared.event.Event.{Event}
 use Rattle.model.specs.declared.event.Event.the-variants as event
 use Rattle.model.specs.Answer.{numberOfStanding}
 use Rattle.model.specs.Tab.{howMany}
-use Rattle.model.specs.Limits.{transitionLimit}
-use Rattle.model.specs.Net.{Net, State, initially}
+use Rattle.model.specs.Net.{Net, State, width, initialState}
 use Rattle.model.specs.Rules.{apply, back, degree}
 use Rattle.model.specs.Run.{Told, Single, single, run, walk}
-use Rattle.model.specs.Owed.{standingOf, Report, owed}
+use Rattle.model.specs.Owed.{wordBits, standingOf, Report, owed}
 
 -- WHAT A CASE IS
 
 -- a run from a state, and the standing that it leaves; a walk back over the last n events; a single event; a single event
--- taken back; the degree of a transition; what is owed
+-- taken back; the degree of a transition; the width of the clock matrix; what is owed
 pub data Case : Type 0 where
   runs : Net → State → List Event → Told → ℕ → Case
   walks : Net → State → List Event → ℕ → Told → Case
   does : Net → State → Event → Single → Case
   undoes : Net → State → Event → Single → Case
   has-degree : Net → State → ℕ → ℕ → Case
+  has-width : Net → ℕ → Case
   owes : Net → State → List ℕ → Case
 
--- of the starts that are owed, and then of the ends: how many of 64 transitions, how many of the net's, the lowest; and the standing
+-- of the starts that are owed, and then of the ends: how many of the 64 bits are set, how many are told, the lowest; and the standing
 abbrev pub digest : Report → List ℕ
 digest r =
-    howMany transitionLimit (r .starts) ∷ r .start-count ∷ r .lowest-start
-    ∷ howMany transitionLimit (r .ends) ∷ r .end-count ∷ r .lowest-end ∷ numberOfStanding (r .standing) ∷ []
+    howMany wordBits (r .starts) ∷ r .start-count ∷ r .lowest-start
+    ∷ howMany wordBits (r .ends) ∷ r .end-count ∷ r .lowest-end ∷ numberOfStanding (r .standing) ∷ []
 
 -- the case is answered so: number, index, events done, ticks, the whole state
 abbrev pub Holds : Case → Type 0
@@ -39,7 +39,13 @@ Holds (walks N S′ es n r) = walk N S′ es n ≡ r
 Holds (does N S e r) = single S (apply N S e) ≡ r
 Holds (undoes N S′ e r) = single S′ (back N S′ e) ≡ r
 Holds (has-degree N S t n) = degree N S t ≡ n
+Holds (has-width N d) = width N ≡ d
 Holds (owes N S r) = digest (owed N S) ≡ r
+
+-- every case of a table holds
+unfoldable pub AllHold : List Case → Type 0
+AllHold [] = Unit {0}
+AllHold (c ∷ cs) = Holds c × AllHold cs
 
 -- NETS AND STATES
 
@@ -47,15 +53,15 @@ abbrev entry : List (List ℕ) → ℕ → ℕ → ℕ
 entry rows t p = getD (getD rows t []) p 0
 
 -- the children's row net: 0 loads the own file (1..3 ticks), 1 fills the row (0..0)
-unfoldable pub row : Net
-row = record {
+unfoldable pub childrensRow : Net
+childrensRow = record {
   places = 3;
   transitions = 2;
   takes = entry ((1 ∷ 0 ∷ 0 ∷ []) ∷ (0 ∷ 1 ∷ 0 ∷ []) ∷ []);
   gives = entry ((0 ∷ 1 ∷ 0 ∷ []) ∷ (0 ∷ 0 ∷ 1 ∷ []) ∷ []);
   sfd = λ t. getD (1 ∷ 0 ∷ []) t 0;
   lfd = λ t. getD (3 ∷ 0 ∷ []) t 0;
-  initial = λ p. getD (1 ∷ 0 ∷ 0 ∷ []) p 0;
+  initialMarking = λ p. getD (1 ∷ 0 ∷ 0 ∷ []) p 0;
 }
 
 -- one transition that takes 2 from place 0 and gives 3 to place 1, within 0..2 ticks
@@ -67,7 +73,19 @@ heavy = record {
   gives = entry ((0 ∷ 3 ∷ []) ∷ []);
   sfd = λ t. 0;
   lfd = λ t. 2;
-  initial = λ p. getD (2 ∷ 0 ∷ []) p 0;
+  initialMarking = λ p. getD (2 ∷ 0 ∷ []) p 0;
+}
+
+-- three transitions, of which the second lasts longest
+unfoldable pub slowMiddle : Net
+slowMiddle = record {
+  places = 1;
+  transitions = 3;
+  takes = λ t p. 1;
+  gives = λ t p. 1;
+  sfd = λ t. 0;
+  lfd = λ t. getD (2 ∷ 4 ∷ 1 ∷ []) t 0;
+  initialMarking = λ p. 1;
 }
 
 abbrev marks : ℕ → ℕ → ℕ → List ℕ
@@ -79,15 +97,15 @@ ages a b c d = a ∷ b ∷ c ∷ d ∷ []
 abbrev none : List ℕ
 none = ages 0 0 0 0
 
--- a state of the row net: the marking, and how many firings of transition 0 and of transition 1 have each age
+-- a state of the children's row net: the marking, and how many firings of transition 0 and of transition 1 have each age
 abbrev state : List ℕ → List ℕ → List ℕ → State
 state m h₀ h₁ = record { marking = m; clock = h₀ ∷ h₁ ∷ [] }
 
 abbrev first : State
-first = initially row
+first = initialState childrensRow
 
-abbrev full : State
-full = state (marks 0 0 1) none none
+abbrev filled : State
+filled = state (marks 0 0 1) none none
 
 -- place 1 holds n, and transition 0 has one count at age 1
 abbrev loaded : ℕ → State
@@ -108,11 +126,12 @@ start t = event.Start t
 abbrev end : ℕ → ℕ → Event
 end t j = event.End t (record { 0 = j })
 
-abbrev log : List Event
+-- the log of document 01, K1
+abbrev pub log : List Event
 log = start 0 ∷ tick ∷ end 0 1 ∷ start 1 ∷ end 1 0 ∷ []
 
-abbrev told : ℕ → ℕ → ℕ → ℕ → State → Told
-told n i d k S = record { number = n; index = i; done = d; ticks = k; state = S }
+abbrev tells : ℕ → ℕ → ℕ → ℕ → State → Told
+tells n i d k S = record { number = n; index = i; done = d; ticks = k; state = S }
 
 abbrev answers : ℕ → State → Single
 answers n S = record { number = n; index = 0; state = S }
@@ -122,42 +141,45 @@ answers n S = record { number = n; index = 0; state = S }
 -- K1 to K12, in order
 unfoldable pub cases : List Case
 cases =
-    runs row first log (told 0 5 5 1 full) 4
-    ∷ runs row first (tick ∷ []) (told 18 0 0 0 (state (marks 1 0 0) none none)) 1
-    ∷ runs row first (start 0 ∷ tick ∷ tick ∷ tick ∷ []) (told 0 4 4 3 (state (marks 0 0 0) (ages 0 0 0 1) none)) 2
-    ∷ runs row first (start 0 ∷ tick ∷ tick ∷ tick ∷ tick ∷ []) (told 19 4 4 3 (state (marks 0 0 0) (ages 0 0 0 1) none)) 2
-    ∷ runs row first (start 0 ∷ end 0 0 ∷ []) (told 15 1 1 0 (state (marks 0 0 0) (ages 1 0 0 0) none)) 3
-    ∷ runs row first (start 0 ∷ tick ∷ end 0 2 ∷ []) (told 16 2 2 1 (state (marks 0 0 0) (ages 0 1 0 0) none)) 3
-    ∷ runs row first (start 0 ∷ tick ∷ end 0 1 ∷ tick ∷ []) (told 18 3 3 1 (state (marks 0 1 0) none none)) 1
-    ∷ runs row first (log ++ (tick ∷ [])) (told 20 5 5 1 full) 4
-    ∷ undoes row full (end 1 0) (answers 0 (state (marks 0 0 0) none (ages 1 0 0 0)))
-    ∷ undoes row first tick (answers 21 (state (marks 1 0 0) none none))
-    ∷ does row (loaded 65534) (end 0 1) (answers 0 (state (marks 0 65535 0) none none))
-    ∷ does row (loaded 65535) (end 0 1) (answers 17 (loaded 65535))
+    runs childrensRow first log (tells 0 5 5 1 filled) 4
+    ∷ runs childrensRow first (tick ∷ []) (tells 18 0 0 0 (state (marks 1 0 0) none none)) 1
+    ∷ runs childrensRow first (start 0 ∷ tick ∷ tick ∷ tick ∷ []) (tells 0 4 4 3 (state (marks 0 0 0) (ages 0 0 0 1) none)) 2
+    ∷ runs childrensRow first (start 0 ∷ tick ∷ tick ∷ tick ∷ tick ∷ []) (tells 19 4 4 3 (state (marks 0 0 0) (ages 0 0 0 1) none)) 2
+    ∷ runs childrensRow first (start 0 ∷ end 0 0 ∷ []) (tells 15 1 1 0 (state (marks 0 0 0) (ages 1 0 0 0) none)) 3
+    ∷ runs childrensRow first (start 0 ∷ tick ∷ end 0 2 ∷ []) (tells 16 2 2 1 (state (marks 0 0 0) (ages 0 1 0 0) none)) 3
+    ∷ runs childrensRow first (start 0 ∷ tick ∷ end 0 1 ∷ tick ∷ []) (tells 18 3 3 1 (state (marks 0 1 0) none none)) 1
+    ∷ runs childrensRow first (log ++ (tick ∷ [])) (tells 20 5 5 1 filled) 4
+    ∷ undoes childrensRow filled (end 1 0) (answers 0 (state (marks 0 0 0) none (ages 1 0 0 0)))
+    ∷ undoes childrensRow first tick (answers 21 (state (marks 1 0 0) none none))
+    ∷ does childrensRow (loaded 65534) (end 0 1) (answers 0 (state (marks 0 65535 0) none none))
+    ∷ does childrensRow (loaded 65535) (end 0 1) (answers 17 (loaded 65535))
     ∷ []
 
--- case k of a table, counted from 0
-abbrev pub caseAt : List Case → ℕ → Case
-caseAt cs k = getD cs k (does row first tick (answers 18 first))
-
--- cases that document 01 does not mark K
+-- further cases
 unfoldable pub furtherCases : List Case
 furtherCases =
     -- a log with no events
-    runs row first [] (told 0 0 0 0 (state (marks 1 0 0) none none)) 1
+    runs childrensRow first [] (tells 0 0 0 0 (state (marks 1 0 0) none none)) 1
     -- 11 and 12, done and taken back
-    ∷ does row full event.Malformed (answers 11 full)
-    ∷ does row full (start 2) (answers 12 full)
-    ∷ undoes row full event.Malformed (answers 11 full)
-    ∷ undoes row full (end 2 0) (answers 12 full)
+    ∷ does childrensRow filled event.Malformed (answers 11 filled)
+    ∷ does childrensRow filled (start 2) (answers 12 filled)
+    ∷ undoes childrensRow filled event.Malformed (answers 11 filled)
+    ∷ undoes childrensRow filled (end 2 0) (answers 12 filled)
     -- a start taken back, and one that cannot have been: place 0 would have held 65,536
-    ∷ undoes row (state (marks 0 0 0) (ages 1 0 0 0) none) (start 0) (answers 0 (state (marks 1 0 0) none none))
-    ∷ undoes row (state (marks 65535 0 0) (ages 1 0 0 0) none) (start 0) (answers 21 (state (marks 65535 0 0) (ages 1 0 0 0) none))
+    ∷ undoes childrensRow (state (marks 0 0 0) (ages 1 0 0 0) none) (start 0) (answers 0 (state (marks 1 0 0) none none))
+    ∷ undoes childrensRow (state (marks 65535 0 0) (ages 1 0 0 0) none) (start 0) (answers 21 (state (marks 65535 0 0) (ages 1 0 0 0) none))
     -- a tick taken back, and two that cannot have been: a firing has age 0; the marking enables transition 0
-    ∷ undoes row (loaded 0) tick (answers 0 (state (marks 0 0 0) (ages 1 0 0 0) none))
-    ∷ undoes row (state (marks 0 0 0) (ages 1 1 0 0) none) tick (answers 21 (state (marks 0 0 0) (ages 1 1 0 0) none))
-    ∷ undoes row (state (marks 1 0 0) (ages 0 1 0 0) none) tick (answers 21 (state (marks 1 0 0) (ages 0 1 0 0) none))
-    -- weights above 1: a place one short; the count full and nearly so; an end taken back, one token short, and with a full count
+    ∷ undoes childrensRow (loaded 0) tick (answers 0 (state (marks 0 0 0) (ages 1 0 0 0) none))
+    ∷ undoes childrensRow (state (marks 0 0 0) (ages 1 1 0 0) none) tick (answers 21 (state (marks 0 0 0) (ages 1 1 0 0) none))
+    ∷ undoes childrensRow (state (marks 1 0 0) (ages 0 1 0 0) none) tick (answers 21 (state (marks 1 0 0) (ages 0 1 0 0) none))
+    -- a transition not enabled and with a full count: 13 before 14
+    ∷ does childrensRow (state (marks 0 0 0) (ages 65535 0 0 0) none) (start 0) (answers 13 (state (marks 0 0 0) (ages 65535 0 0 0) none))
+    -- no firing, and the age outside the interval: 15 before 16; or the place full: 16 before 17
+    ∷ does childrensRow first (end 0 0) (answers 15 (state (marks 1 0 0) none none))
+    ∷ does childrensRow (state (marks 0 65535 0) none none) (end 0 1) (answers 16 (state (marks 0 65535 0) none none))
+    -- a start and an end owed: 18 before 19
+    ∷ does childrensRow (state (marks 1 0 0) (ages 0 0 0 1) none) tick (answers 18 (state (marks 1 0 0) (ages 0 0 0 1) none))
+    -- weights above 1: a place one short; the count filled and nearly so; an end taken back, one token short, and with a filled count
     ∷ does heavy (laden 1 0 0 0 0) (start 0) (answers 13 (laden 1 0 0 0 0))
     ∷ does heavy (laden 5 0 65534 0 0) (start 0) (answers 0 (laden 3 0 65535 0 0))
     ∷ does heavy (laden 5 0 65535 0 0) (start 0) (answers 14 (laden 5 0 65535 0 0))
@@ -165,21 +187,27 @@ furtherCases =
     ∷ undoes heavy (laden 0 2 0 0 0) (end 0 2) (answers 21 (laden 0 2 0 0 0))
     ∷ undoes heavy (laden 0 3 0 0 65535) (end 0 2) (answers 21 (laden 0 3 0 0 65535))
     -- two firings that differ only in age
-    ∷ runs heavy (laden 3 0 0 1 0) (start 0 ∷ tick ∷ end 0 1 ∷ []) (told 0 3 3 1 (laden 1 3 0 0 1)) 2
-    ∷ runs heavy (laden 3 0 0 1 0) (start 0 ∷ tick ∷ end 0 2 ∷ []) (told 0 3 3 1 (laden 1 3 0 1 0)) 3
+    ∷ runs heavy (laden 3 0 0 1 0) (start 0 ∷ tick ∷ end 0 1 ∷ []) (tells 0 3 3 1 (laden 1 3 0 0 1)) 2
+    ∷ runs heavy (laden 3 0 0 1 0) (start 0 ∷ tick ∷ end 0 2 ∷ []) (tells 0 3 3 1 (laden 1 3 0 1 0)) 3
     -- a start while an end is owed
-    ∷ runs heavy (laden 2 0 0 0 1) (start 0 ∷ tick ∷ []) (told 19 1 1 0 (laden 0 0 1 0 1)) 2
-    -- walks: over all of a log, over its last two events, over none, over more than it has, and one that is refused on its way
-    ∷ walks row full log 5 (told 0 0 5 1 (state (marks 1 0 0) none none))
-    ∷ walks row full log 2 (told 0 3 2 0 (state (marks 0 1 0) none none))
-    ∷ walks row full log 0 (told 0 5 0 0 full)
-    ∷ walks row full log 6 (told 22 0 0 0 full)
-    ∷ walks row (state (marks 0 0 0) (ages 0 0 1 0) none) (start 1 ∷ start 0 ∷ tick ∷ []) 3 (told 21 1 1 1 (loaded 0))
-    -- degrees
+    ∷ runs heavy (laden 2 0 0 0 1) (start 0 ∷ tick ∷ []) (tells 19 1 1 0 (laden 0 0 1 0 1)) 2
+    -- walks: over all of a log, over its last two events, over none, over more than it has; one that is refused at once, and
+    -- one that is refused on its way
+    ∷ walks childrensRow filled log 5 (tells 0 0 5 1 (state (marks 1 0 0) none none))
+    ∷ walks childrensRow filled log 2 (tells 0 3 2 0 (state (marks 0 1 0) none none))
+    ∷ walks childrensRow filled log 0 (tells 0 5 0 0 filled)
+    ∷ walks childrensRow filled log 6 (tells 22 0 0 0 filled)
+    ∷ walks childrensRow first log 5 (tells 21 4 0 0 (state (marks 1 0 0) none none))
+    ∷ walks childrensRow (state (marks 0 0 0) (ages 0 0 1 0) none) (start 1 ∷ start 0 ∷ tick ∷ []) 3 (tells 21 1 1 1 (loaded 0))
+    -- degrees, and widths
     ∷ has-degree heavy (laden 5 0 0 0 0) 0 2
     ∷ has-degree heavy (laden 1 0 0 0 0) 0 0
-    -- nothing owed; two starts owed; a start and an end owed
-    ∷ owes row full (0 ∷ 0 ∷ 64 ∷ 0 ∷ 0 ∷ 64 ∷ 4 ∷ [])
-    ∷ owes row (state (marks 1 1 0) none none) (2 ∷ 2 ∷ 0 ∷ 0 ∷ 0 ∷ 64 ∷ 1 ∷ [])
+    ∷ has-width childrensRow 4
+    ∷ has-width slowMiddle 5
+    -- at rest; free to tick; an end owed; two starts owed; a start and an end owed
+    ∷ owes childrensRow filled (0 ∷ 0 ∷ 64 ∷ 0 ∷ 0 ∷ 64 ∷ 4 ∷ [])
+    ∷ owes childrensRow (loaded 0) (0 ∷ 0 ∷ 64 ∷ 0 ∷ 0 ∷ 64 ∷ 3 ∷ [])
+    ∷ owes childrensRow (state (marks 0 0 0) none (ages 1 0 0 0)) (0 ∷ 0 ∷ 64 ∷ 1 ∷ 1 ∷ 1 ∷ 2 ∷ [])
+    ∷ owes childrensRow (state (marks 1 1 0) none none) (2 ∷ 2 ∷ 0 ∷ 0 ∷ 0 ∷ 64 ∷ 1 ∷ [])
     ∷ owes heavy (laden 2 0 0 0 1) (1 ∷ 1 ∷ 0 ∷ 1 ∷ 1 ∷ 0 ∷ 1 ∷ [])
     ∷ []

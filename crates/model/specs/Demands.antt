@@ -1,32 +1,43 @@
--- The demands on the engine, as statements about a net: the sentences of demands 2 and 3 in their order. proofs/Demands.antt
--- proves them of every net, whatever its durations.
+-- The demands on the engine, as statements about a net: the sentences of demands 2 and 3, with what is told of refused events,
+-- logs and walks. proofs/Demands.antt proves them of every net, whatever its size and durations.
 -- Assumes nothing.
 use mathlib.Core.Path.{_≡_}
 use mathlib.Core.Logic.{_↔_}
 use mathlib.Core.List.{List}
-use Prim.Native.Nat.{ℕ, _-_, _≤_}
+use Prim.Native.Nat.{ℕ, _-_, _<_, _≤_}
 use lib.ListN.{length, take}
 use Rattle.model.specs.declared.event.Event.{Event}
+use Rattle.model.specs.declared.event.Event.the-variants as event
 use Rattle.model.specs.declared.answer.Refusal.{Refusal}
-use Rattle.model.specs.Net.{Net, State, Proper, Lawful, initially}
-use Rattle.model.specs.Moves.{Moves}
+use Rattle.model.specs.declared.answer.Standing.the-variants as standing
+use Rattle.model.specs.Net.{Net, State, Proper, Lawful, IsWidth, Initial, width, initialState}
+use Rattle.model.specs.Moves.{Degree, Moves}
 use Rattle.model.specs.Refusals.{Refuses, Barred}
-use Rattle.model.specs.Rules.{done, refused, apply, back}
+use Rattle.model.specs.Rules.{done, refused, apply, back, degree}
 use Rattle.model.specs.Run.{Told, Leads, Ran, Walked, run, walk, lastOf, acceptedRun, acceptedWalk}
 use Rattle.model.specs.Owed.{Report, Reports, owed}
 
 -- DEMAND 2
 pub record Demand2 (N : Net) : Type 0 where
+  -- Definition 3: the width of the clock matrix, and the initial state
+  pub width-is : 0 < N .transitions → (d : ℕ) → (d ≡ width N) ↔ IsWidth N d
+  pub initial-is : (S : State) → (S ≡ initialState N) ↔ Initial N S
+  -- Definition 4: the degree
+  pub degree-is : Proper N → (S : State) → Lawful N S → (t : ℕ) → t < N .transitions → (n : ℕ) → (n ≡ degree N S t) ↔ Degree N S t n
   -- an event is accepted exactly when the rules permit it, and the state after it is the one they give
   pub event-accepted : (S : State) (e : Event) (S′ : State) → (apply N S e ≡ done S′) ↔ Moves N S e S′
   -- each refusal is given exactly when document 01 says
   pub event-refused : (S : State) (e : Event) (why : Refusal) → (apply N S e ≡ refused why) ↔ Refuses N S e why
   -- a log is accepted exactly when each event in turn is
-  pub log-accepted : (S : State) (es : List Event) (S′ : State) → (run N S es ≡ acceptedRun es S′) ↔ Leads N S es S′
+  pub log-accepted : (S : State) (es : List Event) → (run N S es .number ≡ 0) ↔ ((S′ : State) × Leads N S es S′)
+  -- and then all its events and ticks are told, and the state that they lead to
+  pub log-leads : (S : State) (es : List Event) (S′ : State) → (run N S es ≡ acceptedRun es S′) ↔ Leads N S es S′
   -- what is told of any log, accepted or refused, is exact, and the state left is the one just before the refused event
   pub log-told : (S : State) (es : List Event) (r : Told) → (r ≡ run N S es) ↔ Ran N S es r
   -- the owed report is exact
   pub owed-told : (S : State) (r : Report) → (r ≡ owed N S) ↔ Reports N S r
+  -- and 'free to tick' holds exactly where a tick is accepted
+  pub free-to-tick : (S : State) → (owed N S .standing ≡ standing.FreeToTick) ↔ ((S′ : State) × (apply N S event.Tick ≡ done S′))
 
 -- some lawful state leads to S′ by the event
 abbrev pub SomeLeads : Net → State → Event → Type 0
@@ -52,8 +63,9 @@ pub record Demand3 (N : Net) : Type 0 where
   -- and what is told of any walk is exact
   pub walk-told : (S′ : State) → Lawful N S′ → (es : List Event) (n : ℕ) (r : Told) → (r ≡ walk N S′ es n) ↔ Walked N S′ es n r
 
--- lawful states stay lawful, forward and back, and the initial state is lawful
+-- lawful states stay lawful, forward and back, and the initial state is lawful. (That a walk leaves a lawful state is in `Walked`)
 pub record StaysLawful (N : Net) : Type 0 where
-  pub at-first : Proper N → Lawful N (initially N)
-  pub forward : (S S′ : State) (e : Event) → Lawful N S → apply N S e ≡ done S′ → Lawful N S′
-  pub backward : (S′ S : State) (e : Event) → Lawful N S′ → back N S′ e ≡ done S → Lawful N S
+  pub at-first : Proper N → Lawful N (initialState N)
+  pub forward : (S : State) (e : Event) (S′ : State) → Lawful N S → apply N S e ≡ done S′ → Lawful N S′
+  pub backward : (S′ : State) (e : Event) (S : State) → Lawful N S′ → back N S′ e ≡ done S → Lawful N S
+  pub after-run : (S : State) (es : List Event) → Lawful N S → Lawful N (run N S es .state)

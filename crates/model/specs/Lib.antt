@@ -11,3 +11,4 @@ pub mod Run
 pub mod Owed
 pub mod Demands
 pub mod Cases
+pub mod Edges

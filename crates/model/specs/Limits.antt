@@ -1,4 +1,5 @@
--- The limits of document 01, each stated once, and the tests that use them.
+-- The limits of document 01, once for the definitions, and the tests that use them. In the code they are constants of the net's
+-- kind, and the contracts of the tests hold the two together.
 -- Assumes nothing.
 use mathlib.Core.Bool.{Bool, _&&_}
 use Prim.Native.Nat.{ℕ, _≤_}
@@ -28,11 +29,11 @@ abbrev pub sized? : ℕ → ℕ → Bool
 sized? P T = (leb 1 P && leb P placeLimit) && (leb 1 T && leb T transitionLimit)
 
 -- number 4: lfd neither below sfd nor above 63
-abbrev pub Timed : ℕ → ℕ → Type 0
-Timed sfd lfd = (sfd ≤ lfd) × (lfd ≤ durationLimit)
+abbrev pub IsInterval : ℕ → ℕ → Type 0
+IsInterval sfd lfd = (sfd ≤ lfd) × (lfd ≤ durationLimit)
 
-abbrev pub timed? : ℕ → ℕ → Bool
-timed? sfd lfd = leb sfd lfd && leb lfd durationLimit
+abbrev pub interval? : ℕ → ℕ → Bool
+interval? sfd lfd = leb sfd lfd && leb lfd durationLimit
 
 -- number 10: at most 24,000 events
 abbrev pub Logged : ℕ → Type 0

@@ -38,8 +38,8 @@ abbrev pub Timely : Net → ℕ → ℕ → Type 0
 Timely N t j = (N .sfd t ≤ j) × (j ≤ N .lfd t)
 
 -- no place passes the limit when `more p` tokens join it
-abbrev pub Fits : Net → State → (ℕ → ℕ) → Type 0
-Fits N S more = (p : ℕ) → p < N .places → Held (tokens S p + more p)
+abbrev pub HasRoom : Net → State → (ℕ → ℕ) → Type 0
+HasRoom N S more = (p : ℕ) → p < N .places → Held (tokens S p + more p)
 
 -- Definition 5.1
 pub record Starts (N : Net) (S : State) (t : ℕ) (S′ : State) : Type 0 where
@@ -55,7 +55,7 @@ pub record Ends (N : Net) (S : State) (t j : ℕ) (S′ : State) : Type 0 where
   pub known : t < N .transitions
   pub timely : Timely N t j
   pub active : 1 ≤ count S t j
-  pub room : Fits N S (N .gives t)
+  pub room : HasRoom N S (N .gives t)
   pub marked : (p : ℕ) → p < N .places → tokens S′ p ≡ tokens S p + N .gives t p
   pub counted : (u k : ℕ) → u < N .transitions → k < width N → count S′ u k + one t j u k ≡ count S u k
   pub shaped : Shaped N S′

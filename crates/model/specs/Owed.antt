@@ -7,7 +7,6 @@ use lib.Dec.{leb, ltb}
 use Rattle.model.specs.declared.answer.Standing.{Standing}
 use Rattle.model.specs.declared.answer.Standing.the-variants as standing
 use Rattle.model.specs.Tab.{Tells, howMany, lowest}
-use Rattle.model.specs.Limits.{transitionLimit}
 use Rattle.model.specs.Net.{Net, State, count}
 use Rattle.model.specs.Moves.{Enabled, NoStartOwed, NoEndOwed, NothingRunning}
 use Rattle.model.specs.Rules.{enabled?, no-start-owed?, no-end-owed?, nothing-running?}
@@ -31,15 +30,19 @@ owes-end? N S t = ltb t (N .transitions) && leb 1 (count S t (N .lfd t))
 -- OF A SET OF TRANSITIONS: HOW MANY IT HAS, AND THE LOWEST
 
 -- A holds of k numbers below n
-pub data Numbers (A : ℕ → Type 0) : ℕ → ℕ → Type 0 where
-  none : Numbers A 0 0
-  one-more : {n k : ℕ} → A n → Numbers A n k → Numbers A (suc n) (suc k)
-  no-more : {n k : ℕ} → ¬ A n → Numbers A n k → Numbers A (suc n) k
+pub data HowMany (A : ℕ → Type 0) : ℕ → ℕ → Type 0 where
+  none : HowMany A 0 0
+  one-more : {n k : ℕ} → A n → HowMany A n k → HowMany A (suc n) (suc k)
+  no-more : {n k : ℕ} → ¬ A n → HowMany A n k → HowMany A (suc n) k
+
+-- the bits of an owed word, and so the trailing zeros of one that has none set
+abbrev pub wordBits : ℕ
+wordBits = 64
 
 -- l is the lowest of those, or 64 where there is none
 pub data Lowest (A : ℕ → Type 0) (n : ℕ) : ℕ → Type 0 where
   found : {l : ℕ} → l < n → A l → ((i : ℕ) → i < l → ¬ A i) → Lowest A n l
-  empty : ((i : ℕ) → i < n → ¬ A i) → Lowest A n transitionLimit
+  empty : ((i : ℕ) → i < n → ¬ A i) → Lowest A n wordBits
 
 -- THE STANDING
 
@@ -71,8 +74,8 @@ pub record Report : Type 0 where
 pub record Reports (N : Net) (S : State) (r : Report) : Type 0 where
   pub starts-are : (t : ℕ) → Tells (r .starts t) (OwesStart N S t)
   pub ends-are : (t : ℕ) → Tells (r .ends t) (OwesEnd N S t)
-  pub start-count-is : Numbers (OwesStart N S) (N .transitions) (r .start-count)
-  pub end-count-is : Numbers (OwesEnd N S) (N .transitions) (r .end-count)
+  pub start-count-is : HowMany (OwesStart N S) (N .transitions) (r .start-count)
+  pub end-count-is : HowMany (OwesEnd N S) (N .transitions) (r .end-count)
   pub lowest-start-is : Lowest (OwesStart N S) (N .transitions) (r .lowest-start)
   pub lowest-end-is : Lowest (OwesEnd N S) (N .transitions) (r .lowest-end)
   pub standing-is : Stands N S (r .standing)
@@ -83,7 +86,7 @@ owed N S = record {
   ends = owes-end? N S;
   start-count = howMany (N .transitions) (owes-start? N S);
   end-count = howMany (N .transitions) (owes-end? N S);
-  lowest-start = lowest transitionLimit (N .transitions) (owes-start? N S);
-  lowest-end = lowest transitionLimit (N .transitions) (owes-end? N S);
+  lowest-start = lowest wordBits (N .transitions) (owes-start? N S);
+  lowest-end = lowest wordBits (N .transitions) (owes-end? N S);
   standing = standingOf N S;
 }

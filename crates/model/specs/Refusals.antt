@@ -8,7 +8,7 @@ use Rattle.model.specs.declared.answer.Refusal.{Refusal}
 use Rattle.model.specs.declared.answer.Refusal.the-variants as refusal
 use Rattle.model.specs.Limits.{Held}
 use Rattle.model.specs.Net.{Net, State, Lawful, count}
-use Rattle.model.specs.Moves.{Enabled, NoStartOwed, NoEndOwed, NothingRunning, Timely, Fits, Moves}
+use Rattle.model.specs.Moves.{Enabled, NoStartOwed, NoEndOwed, NothingRunning, Timely, HasRoom, Moves}
 
 -- 11 and 12, told of an event done and of one taken back
 pub data Unfit (N : Net) : Event → Refusal → Type 0 where
@@ -34,7 +34,7 @@ pub data Refuses (N : Net) (S : State) : Event → Refusal → Type 0 where
   none-of-that-age : {t : ℕ} {age : Age} → t < N .transitions → Timely N t (age .0)
       → ¬ (1 ≤ count S t (age .0)) → Refuses N S (event.End t age) refusal.NoneOfThatAge
   place-full : {t : ℕ} {age : Age} → t < N .transitions → Timely N t (age .0) → 1 ≤ count S t (age .0)
-      → ¬ Fits N S (N .gives t) → Refuses N S (event.End t age) refusal.PlaceFull
+      → ¬ HasRoom N S (N .gives t) → Refuses N S (event.End t age) refusal.PlaceFull
   start-owed : ¬ NoStartOwed N S → Refuses N S event.Tick refusal.StartOwed
   end-owed : NoStartOwed N S → ¬ NoEndOwed N S → Refuses N S event.Tick refusal.EndOwed
   nothing-running : NoStartOwed N S → NoEndOwed N S → NothingRunning N S → Refuses N S event.Tick refusal.NothingRunning

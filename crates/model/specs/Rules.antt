@@ -36,7 +36,7 @@ abbrev pub stateAfter : State → Outcome → State
 stateAfter S (done S′) = S′
 stateAfter S (refused why) = S
 
--- THE TESTS, each with the relation of its name
+-- THE TESTS of the relations of Moves.antt, each by the name of its relation
 
 unfoldable pub enabled? : Net → State → ℕ → ℕ → Bool
 enabled? N S t n = all (N .places) (λ p. leb (n * N .takes t p) (tokens S p))
@@ -53,8 +53,8 @@ nothing-running? N S = all (N .transitions) (λ t. all (width N) (λ j. eqb (cou
 unfoldable pub timely? : Net → ℕ → ℕ → Bool
 timely? N t j = leb (N .sfd t) j && leb j (N .lfd t)
 
-unfoldable pub fits? : Net → State → (ℕ → ℕ) → Bool
-fits? N S more = all (N .places) (λ p. held? (tokens S p + more p))
+unfoldable pub has-room? : Net → State → (ℕ → ℕ) → Bool
+has-room? N S more = all (N .places) (λ p. held? (tokens S p + more p))
 
 -- ONE EVENT DONE
 
@@ -86,10 +86,10 @@ apply N S (event.End t age) =
     unless (ltb t (N .transitions)) refusal.NoSuchTransition
     (unless (timely? N t (age .0)) refusal.OutsideInterval
     (unless (leb 1 (count S t (age .0))) refusal.NoneOfThatAge
-    (unless (fits? N S (N .gives t)) refusal.PlaceFull (done (ended N S t (age .0))))))
+    (unless (has-room? N S (N .gives t)) refusal.PlaceFull (done (ended N S t (age .0))))))
 apply N S event.Malformed = refused refusal.Malformed
 
--- ONE EVENT TAKEN BACK: S′ is the state that it led to
+-- ONE EVENT TAKEN BACK: S′ is the state that it led to. The two relations beside their tests serve the proofs
 
 -- every place has `fewer p` tokens to give back
 abbrev pub Covers : Net → State → (ℕ → ℕ) → Type 0
@@ -124,7 +124,7 @@ back N S′ event.Tick =
 back N S′ (event.Start t) =
     unless (ltb t (N .transitions)) refusal.NoSuchTransition
     (unless (leb 1 (count S′ t 0)) refusal.NoStateBefore
-    (unless (fits? N S′ (N .takes t)) refusal.NoStateBefore (done (unstarted N S′ t))))
+    (unless (has-room? N S′ (N .takes t)) refusal.NoStateBefore (done (unstarted N S′ t))))
 back N S′ (event.End t age) =
     unless (ltb t (N .transitions)) refusal.NoSuchTransition
     (unless (timely? N t (age .0)) refusal.NoStateBefore
@@ -135,9 +135,9 @@ back N S′ event.Malformed = refused refusal.Malformed
 -- THE DEGREE
 
 -- how many times a weight goes into a marking: any number of times where it is 0, so the limit
-unfoldable pub share : ℕ → ℕ → ℕ
-share zero m = tokenLimit
-share (suc w) m = m / suc w
+unfoldable pub times : ℕ → ℕ → ℕ
+times zero m = tokenLimit
+times (suc w) m = m / suc w
 
 unfoldable pub degree : Net → State → ℕ → ℕ
-degree N S t = least tokenLimit (N .places) (λ p. share (N .takes t p) (tokens S p))
+degree N S t = least tokenLimit (N .places) (λ p. times (N .takes t p) (tokens S p))

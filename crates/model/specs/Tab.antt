@@ -43,6 +43,6 @@ lowest none (suc n) f = lowest (cond (f n) n none) n f
 abbrev pub oneIf : Bool → ℕ
 oneIf b = cond b 1 0
 
--- the matrix with a single 1, at row t and column j
+-- the matrix with a single 1, at transition t and age j
 unfoldable pub one : ℕ → ℕ → ℕ → ℕ → ℕ
 one t j u k = oneIf (eqb t u && eqb j k)

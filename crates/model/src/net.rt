@@ -1,6 +1,7 @@
-// The shape of a net and the limits of document 01. Each limit is stated here once; the tests below are its only users.
+// The shape of a net, and the limits of document 01: each is stated here once, and the test below that uses it is its only user.
+// specs/Limits.antt states them for the definitions; the contracts of the tests hold the two together.
 ghost use mathlib.Core.Path.{_≡_};
-ghost use Rattle.model.specs.Limits.{shapeOf, sized?, timed?, logged?, held?};
+ghost use Rattle.model.specs.Limits.{shapeOf, sized?, interval?, logged?, held?};
 
 // How many places and transitions a net has, and how wide its clock matrix is.
 pub struct Net {
@@ -47,8 +48,8 @@ impl Net {
     }
 
     // A transition may have these shortest and longest durations.
-    pub fn timed(sfd: usize, lfd: usize) -> bool
-        ensures { λ r. ⌜ r ≡ timed? sfd lfd ⌝ }
+    pub fn is_interval(sfd: usize, lfd: usize) -> bool
+        ensures { λ r. ⌜ r ≡ interval? sfd lfd ⌝ }
     {
         if lfd < sfd {
             return false;
