@@ -1,5 +1,6 @@
 pub mod Tab
 pub mod Tests
+pub mod Alls
 pub mod Ages
 pub mod Shape
 pub mod Forward

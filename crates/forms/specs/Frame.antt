@@ -1,0 +1,26 @@
+-- What the functions behind the checks ask of their callers, and what the checks give: bytes in their frame.
+-- Assumes nothing.
+use mathlib.Core.Path.{_≡_}
+use mathlib.Core.List.{List}
+use Prim.Native.Nat.{ℕ}
+use Rattle.model.specs.declared.net.Net.{Net as Shape}
+use Rattle.model.specs.Net.{Net, width}
+use Rattle.forms.specs.Stored.{netOf}
+use Rattle.forms.specs.Nets.{IsNet}
+use Rattle.forms.specs.States.{IsState}
+
+-- the shape is N's
+pub record HasShape (N : Net) (shape : Shape) : Type 0 where
+  pub places-are : shape .places ≡ N .places
+  pub transitions-are : shape .transitions ≡ N .transitions
+  pub width-is : shape .width ≡ width N
+
+-- a checked net, with its shape
+pub record FramedNet (net : List ℕ) (shape : Shape) : Type 0 where
+  pub is-net : IsNet net
+  pub has-shape : HasShape (netOf net) shape
+
+-- a checked net with its shape, and a checked state of it at the front of a buffer
+pub record Framed (net : List ℕ) (shape : Shape) (state : List ℕ) : Type 0 where
+  pub net-framed : FramedNet net shape
+  pub is-state : IsState (netOf net) state

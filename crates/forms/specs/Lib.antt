@@ -1,0 +1,9 @@
+pub mod Form
+pub mod Word
+pub mod Places
+pub mod Stored
+pub mod Written
+pub mod Nets
+pub mod States
+pub mod Logs
+pub mod Frame

@@ -1,0 +1,49 @@
+-- Where each thing stands in the stored forms, and how long they are (document 01, "Stored forms").
+-- Assumes nothing.
+use Prim.Native.Nat.{ℕ, _+_, _-_, _*_}
+use Rattle.model.specs.declared.age.Column.{Column}
+
+-- A NET: version, length, P, T; P initial markings; for each transition a row of sfd, lfd, P input weights, P output weights
+
+abbrev pub initialAt : ℕ → ℕ
+initialAt p = 7 + 2 * p
+
+abbrev pub rowLength : ℕ → ℕ
+rowLength P = 2 + 2 * P
+
+unfoldable pub rowAt : ℕ → ℕ → ℕ
+rowAt P t = 7 + 2 * P + t * rowLength P
+
+-- sfd is at the row's first byte, and lfd at its second
+abbrev pub inputAt : ℕ → ℕ → ℕ → ℕ
+inputAt P t p = rowAt P t + 2 + p
+
+abbrev pub outputAt : ℕ → ℕ → ℕ → ℕ
+outputAt P t p = rowAt P t + 2 + P + p
+
+-- the rows end where another would begin
+abbrev pub netLength : ℕ → ℕ → ℕ
+netLength P T = rowAt P T
+
+-- A STATE: version, length, P, T, D; P markings; T rows of D counts, the first column for age 0
+
+abbrev pub markAt : ℕ → ℕ
+markAt p = 8 + 2 * p
+
+-- the rows of counts begin behind the markings
+abbrev pub clockAt : ℕ → ℕ
+clockAt P = markAt P
+
+unfoldable pub countAt : ℕ → ℕ → ℕ → Column → ℕ
+countAt P D t column = clockAt P + 2 * (t * D + (column .0 - 1))
+
+unfoldable pub stateLength : ℕ → ℕ → ℕ → ℕ
+stateLength P T D = clockAt P + 2 * (T * D)
+
+-- A LOG: version, length; events of two bytes
+
+abbrev pub eventAt : ℕ → ℕ
+eventAt k = 5 + 2 * k
+
+abbrev pub logLength : ℕ → ℕ
+logLength events = 5 + 2 * events

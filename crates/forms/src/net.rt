@@ -1,0 +1,99 @@
+// The check of a net's bytes, numbers 1 to 6, and the shape of a checked net.
+use model::net::Net;
+use crate::form::Fault;
+use crate::form::Form;
+use crate::places;
+use crate::words;
+ghost use mathlib.Core.Path.{_≡_};
+ghost use mathlib.Core.Bool.{not};
+ghost use Prim.Native.Nat.{_+_, _*_, _<_, _≤_};
+ghost use lib.Dec.{eqb};
+ghost use lib.ListN.{length};
+ghost use Rattle.model.specs.Tab.{all};
+ghost use Rattle.forms.specs.Word.{byte};
+ghost use Rattle.forms.specs.Places.{rowAt, rowLength};
+ghost use Rattle.forms.specs.Stored.{netOf};
+ghost use Rattle.forms.specs.Nets.{IsNet, net-framed?, some-weight?, checkRow, checkNet};
+ghost use Rattle.forms.specs.Form.{inTurn};
+ghost use Rattle.forms.specs.Frame.{HasShape};
+
+// At least 7 bytes, version 1, and the length is the slice's.
+fn framed(net: &[u8]) -> bool
+    ensures { λ r. ⌜ r ≡ net-framed? (now (net .entry)) ⌝ }
+{
+    if net.len() < 7 {
+        return false;
+    }
+    if net[0] != 1 {
+        return false;
+    }
+    words::read32(net, 1) == net.len()
+}
+
+// Some of the n weights from `from` on is above 0.
+fn some_weight(net: &[u8], from: usize, n: usize) -> bool
+    requires { ⌜ from + n ≤ length (now net) ⌝ }
+    ensures { λ r. ⌜ r ≡ some-weight? n (λ p. byte (now (net .entry)) (from + p)) ⌝ }
+{
+    let mut p = 0;
+    while p < n {
+        if net[from + p] != 0 {
+            return true;
+        }
+        p += 1;
+    }
+    false
+}
+
+// Transition t: its interval, its input weights, its output weights.
+fn check_row(net: &[u8], t: usize) -> Form
+    requires { ⌜ (7 ≤ length (now net)) × (t < 256) × (rowAt (byte (now net) 5) t + rowLength (byte (now net) 5) ≤ length (now net)) ⌝ }
+    ensures { λ r. ⌜ r ≡ checkRow (netOf (now (net .entry))) t ⌝ }
+{
+    let places = words::wide(net[5]);
+    let row = places::row_at(places, t);
+    if !Net::is_interval(words::wide(net[row]), words::wide(net[row + 1])) {
+        return Form::Bad(Fault::NoInterval(t));
+    }
+    if !some_weight(net, row + 2, places) {
+        return Form::Bad(Fault::NoInput(t));
+    }
+    if !some_weight(net, row + 2 + places, places) {
+        return Form::Bad(Fault::NoOutput(t));
+    }
+    Form::Good
+}
+
+// The transitions in turn, from the lowest.
+fn check_rows(net: &[u8], transitions: usize) -> Form
+    requires { ⌜ (7 ≤ length (now net)) × (transitions ≡ byte (now net) 6) × (transitions < 256) × (rowAt (byte (now net) 5) transitions ≤ length (now net)) ⌝ }
+    ensures { λ r. ⌜ r ≡ inTurn (checkRow (netOf (now (net .entry)))) 0 (byte (now (net .entry)) 6) ⌝ }
+{
+    let mut t = 0;
+    while t < transitions {
+        let row = check_row(net, t);
+        let Form::Good = row else {
+            return row;
+        };
+        t += 1;
+    }
+    Form::Good
+}
+
+// Checks the bytes of a net.
+pub fn check_net(net: &[u8]) -> Form
+    ensures { λ r. ⌜ r ≡ checkNet (now (net .entry)) ⌝ }
+{
+    if !framed(net) {
+        return Form::Bad(Fault::NetFrame);
+    }
+    let places = words::wide(net[5]);
+    let transitions = words::wide(net[6]);
+    if !Net::sized(places, transitions) {
+        return Form::Bad(Fault::NetSize);
+    }
+    if net.len() != places::row_at(places, transitions) {
+        return Form::Bad(Fault::NetLength);
+    }
+    check_rows(net, transitions)
+}
