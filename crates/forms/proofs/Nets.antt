@@ -9,7 +9,7 @@ use native.Mathlib.Omega.{arith}
 use lib.Dec.{eqb}
 use lib.ListN.{length}
 use Rattle.model.specs.Tab.{Tells, all}
-use Rattle.model.specs.Limits.{sized?, interval?}
+use Rattle.model.specs.Limits.{sized?, IsInterval, interval?}
 use Rattle.model.specs.Net.{Net, HasInput, HasOutput, Proper, Accepted}
 use Rattle.model.proofs.Tab.{both-tell, all-tells}
 use Rattle.model.proofs.Tests.{leb-tells, eqb-tells, not-tells, sized-tells, interval-tells, some-fails}
@@ -19,9 +19,11 @@ use Rattle.forms.specs.declared.form.Form.{Form}
 use Rattle.forms.specs.declared.form.Form.the-variants as form
 use Rattle.forms.specs.Form.{inTurn}
 use Rattle.forms.specs.Word.{Bytes, byte, word32}
-use Rattle.forms.specs.Places.{netLength}
+use Rattle.forms.specs.Places.{initialAt, netLength}
 use Rattle.forms.specs.Stored.{netOf}
-use Rattle.forms.specs.Nets.{NetFramed, net-framed?, NetLong, some-weight?, checkRow, checkNet}
+use Rattle.forms.specs.Nets.{NetFramed, net-framed?, NetLong, RowGood, RowFaulty, IsNet, NetFaulty, some-weight?, checkRow, checkNet}
+use Rattle.forms.proofs.WordLaws.{word-fits}
+use Rattle.forms.proofs.Turns.{never, unless-good, past, fails, fault-by, turn-good, turn-bad}
 
 -- WHAT THE TESTS TELL
 
@@ -67,3 +69,102 @@ module _ (b : List ℕ) where
       → eqb (length b) (netLength (byte b 5) (byte b 6)) ≡ true → inTurn (checkRow (netOf b)) 0 (byte b 6) ≡ checkNet b
   unfolding checkNet
   net-rows f s l = rw (f, s, l)
+
+-- ONE TRANSITION
+
+module _ (N : Net) (t : ℕ) where
+  abbrev interval-is : Tells (interval? (N .sfd t) (N .lfd t)) (IsInterval (N .sfd t) (N .lfd t))
+  interval-is = interval-tells (N .sfd t) (N .lfd t)
+
+  abbrev input-is : Tells (some-weight? (N .places) (N .takes t)) (HasInput N t)
+  input-is = some-weight-tells (N .places) (N .takes t)
+
+  abbrev output-is : Tells (some-weight? (N .places) (N .gives t)) (HasOutput N t)
+  output-is = some-weight-tells (N .places) (N .gives t)
+
+  -- none of 4, 5 and 6 is told exactly where the transition is good
+  pub row-exact : (checkRow N t ≡ form.Good) ↔ RowGood N t
+  unfolding checkRow
+  row-exact =
+      let passes =
+      unless-good (fault.NoInterval t) interval-is
+      (unless-good (fault.NoInput t) input-is (unless-good {B = Unit {0}} (fault.NoOutput t) output-is ((λ _. tt), λ _. refl))) in (
+        (λ e. let (i, (p, (q, _))) = passes .0 e in record { interval = i; preset = p; postset = q }),
+        λ g. passes .1 (g .interval, (g .preset, (g .postset, tt))),
+      )
+
+  -- and each is told exactly when
+  pub row-faulty : (why : Fault) → (checkRow N t ≡ form.Bad why) ↔ RowFaulty N t why
+  unfolding checkRow
+  row-faulty why = (
+    fault-by (fault.NoInterval t) _ interval-is (λ f q. rw q (RowFaulty.no-interval f)) (λ i.
+    fault-by (fault.NoInput t) _ input-is (λ f q. rw q (RowFaulty.no-input i f)) (λ p.
+    fault-by (fault.NoOutput t) _ output-is (λ f q. rw q (RowFaulty.no-output i p f)) (λ _. never))),
+    told,
+  )
+    where
+      told : {why : Fault} → RowFaulty N t why → checkRow N t ≡ form.Bad why
+      told (RowFaulty.no-interval f) = fails (fault.NoInterval t) _ interval-is f
+      told (RowFaulty.no-input i f) = past (fault.NoInterval t) interval-is i (fails (fault.NoInput t) _ input-is f)
+      told (RowFaulty.no-output i p f) =
+          past (fault.NoInterval t) interval-is i (past (fault.NoInput t) input-is p (fails (fault.NoOutput t) _ output-is f))
+
+-- THE NET
+
+module _ (b : List ℕ) where
+  abbrev rows-are : (inTurn (checkRow (netOf b)) 0 (byte b 6) ≡ form.Good)
+      ↔ ((t : ℕ) → t < byte b 6 → checkRow (netOf b) t ≡ form.Good)
+  rows-are = turn-good (checkRow (netOf b)) (byte b 6)
+
+  -- none of 1 to 6 is told exactly where the bytes are a net
+  pub net-exact : (checkNet b ≡ form.Good) ↔ IsNet b
+  unfolding checkNet
+  net-exact =
+      let passes =
+      unless-good fault.NetFrame (net-framed-tells b)
+      (unless-good fault.NetSize (sized-tells (byte b 5) (byte b 6)) (unless-good fault.NetLength (net-long-tells b) rows-are)) in (
+        (λ e. let (f, (s, (l, rows))) = passes .0 e in
+            record { framed = f; sized = s; long = l; rows = λ t h. row-exact (netOf b) t .0 (rows t h) }),
+        λ n. passes .1 (n .framed, (n .sized, (n .long, λ t h. row-exact (netOf b) t .1 (n .rows t h)))),
+      )
+
+  told-net : {why : Fault} → NetFaulty b why → checkNet b ≡ form.Bad why
+  unfolding checkNet
+  told-net (NetFaulty.frame f) = fails fault.NetFrame _ (net-framed-tells b) f
+  told-net (NetFaulty.size f s) =
+      past fault.NetFrame (net-framed-tells b) f (fails fault.NetSize _ (sized-tells (byte b 5) (byte b 6)) s)
+  told-net (NetFaulty.length-wrong f s l) =
+      past fault.NetFrame (net-framed-tells b) f
+      (past fault.NetSize (sized-tells (byte b 5) (byte b 6)) s (fails fault.NetLength _ (net-long-tells b) l))
+  told-net (NetFaulty.row {why} {t} f s l h lower r) =
+      past fault.NetFrame (net-framed-tells b) f
+      (past fault.NetSize (sized-tells (byte b 5) (byte b 6)) s
+      (past fault.NetLength (net-long-tells b) l
+      (turn-bad (checkRow (netOf b)) (byte b 6) why .1
+      (t, h, (λ u k. row-exact (netOf b) u .1 (lower u k)), row-faulty (netOf b) t why .1 r))))
+
+  -- and each is told exactly when document 01's table has it
+  pub net-faulty : (why : Fault) → (checkNet b ≡ form.Bad why) ↔ NetFaulty b why
+  unfolding checkNet
+  net-faulty why = (
+    fault-by fault.NetFrame _ (net-framed-tells b) (λ a q. rw q (NetFaulty.frame a)) (λ f.
+    fault-by fault.NetSize _ (sized-tells (byte b 5) (byte b 6)) (λ a q. rw q (NetFaulty.size f a)) (λ s.
+    fault-by fault.NetLength _ (net-long-tells b) (λ a q. rw q (NetFaulty.length-wrong f s a)) (λ l e.
+    let (t, h, lower, r) = turn-bad (checkRow (netOf b)) (byte b 6) why .0 e in
+    NetFaulty.row f s l h (λ u k. row-exact (netOf b) u .0 (lower u k)) (row-faulty (netOf b) t why .0 r)))),
+    told-net,
+  )
+
+  -- what is accepted is a net that document 01 accepts
+  pub net-accepted : Bytes b → IsNet b → Accepted (netOf b)
+  unfolding netOf
+  net-accepted small n = record {
+    proper = record {
+      interval = λ t h. n .rows t h .interval .0;
+      preset = λ t h. n .rows t h .preset;
+      postset = λ t h. n .rows t h .postset;
+      initial-held = λ p h. omega (arith, word-fits b (initialAt p) small);
+    };
+    sized = n .sized;
+    short = λ t h. n .rows t h .interval .1;
+  }

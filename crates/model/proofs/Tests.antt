@@ -1,7 +1,7 @@
 -- What the tests of specs/ tell, and what an outcome behind tests comes to.
 -- Assumes nothing.
 use mathlib.Core.Path.{_≡_, refl, sym}
-use mathlib.Core.Bool.{Bool, true, false, not}
+use mathlib.Core.Bool.{Bool, true, false, cond, not}
 use mathlib.Core.Logic.{_↔_}
 use Prim.Native.Nat.{ℕ, zero, suc, _+_, _*_, _<_, _≤_}
 use native.Mathlib.Nat.{not-suc-le-zero}
@@ -118,24 +118,36 @@ done-is S S′ = ((λ e. cc), λ e. cc)
 pub never : {C : Type 0} {S : State} {why : Refusal} → done S ≡ refused why → C
 never e = let z : _≡_ {A = ℕ} 0 1 = cc in absurd (omega arith)
 
+-- WHAT STANDS BEHIND A TEST
+
+module _ {b : Bool} {A X : Type 0} (t : Tells b A) where
+  pub cond-past : (bad : X) {rest r : X} → A → rest ≡ r → cond b rest bad ≡ r
+  cond-past bad a e = rw (told-true t a) e
+
+  pub cond-fails : (bad rest : X) → ¬ A → cond b rest bad ≡ bad
+  cond-fails bad rest f = rw (told-false t f)
+
+  -- by what the test tells
+  pub cond-by : {C : Type 0} (bad rest : X) {r : X} → (¬ A → bad ≡ r → C) → (A → rest ≡ r → C) → cond b rest bad ≡ r → C
+  cond-by bad rest here behind e = decide t (λ a. behind a (rw (told-true t a) at e)) (λ f. here f (rw (told-false t f) at e))
+
 -- AN OUTCOME BEHIND A TEST
 
 -- it is done where the test passes and the outcome is done
 pub unless-done : {b : Bool} {o : Outcome} {S : State} {A B : Type 0} (why : Refusal) → Tells b A → (o ≡ done S) ↔ B
     → (unless b why o ≡ done S) ↔ (A × B)
-unless-done {b = true} why t r = ((λ e. (t .sound tt, r .0 e)), λ ab. r .1 (ab .1))
-unless-done {b = false} why t r = ((λ e. let z : _≡_ {A = ℕ} 0 1 = cc in absurd (omega arith)), λ ab. absurd (t .complete (ab .0)))
+unless-done {b} {o} why t r = (
+  cond-by t (refused why) o (λ _ e. never (sym e)) (λ a e. (a, r .0 e)),
+  λ (a, c). cond-past t (refused why) a (r .1 c),
+)
 
 pub past : {b : Bool} {A : Type 0} {o r : Outcome} (why : Refusal) → Tells b A → A → o ≡ r → unless b why o ≡ r
-past {b = true} why t a e = e
-past {b = false} why t a e = absurd (t .complete a)
+past why t = cond-past t (refused why)
 
 pub fails : {b : Bool} {A : Type 0} (why : Refusal) (o : Outcome) → Tells b A → ¬ A → unless b why o ≡ refused why
-fails {b = true} why o t f = absurd (f (t .sound tt))
-fails {b = false} why o t f = refl
+fails why o t = cond-fails t (refused why) o
 
 -- it is refused by the test, or behind it
 pub refusal-by : {b : Bool} {A C : Type 0} (why : Refusal) (o : Outcome) {told : Refusal} → Tells b A
     → (¬ A → told ≡ why → C) → (A → o ≡ refused told → C) → unless b why o ≡ refused told → C
-refusal-by {b = true} why o t here behind e = behind (t .sound tt) e
-refusal-by {b = false} why o {told} t here behind e = here (t .complete) (cc)
+refusal-by why o {told} t here = cond-by t (refused why) o (λ f e. here f (cc))

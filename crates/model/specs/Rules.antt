@@ -2,7 +2,7 @@
 -- structure is `unless`, in document 01's order. proofs/ ties them to the relations of Moves.antt and Refusals.antt.
 -- Assumes nothing.
 use mathlib.Core.Path.{_≡_}
-use mathlib.Core.Bool.{Bool, true, false, _&&_, not}
+use mathlib.Core.Bool.{Bool, cond, _&&_, not}
 use Prim.Native.Nat.{ℕ, zero, suc, _+_, _-_, _*_, _/_, _<_, _≤_}
 use lib.Dec.{leb, ltb, eqb}
 use Rattle.model.specs.declared.event.Event.{Event}
@@ -24,8 +24,7 @@ pub data Outcome : Type 0 where
 
 -- where the test fails the refusal is told, and else what follows
 abbrev pub unless : Bool → Refusal → Outcome → Outcome
-unless true why o = o
-unless false why o = refused why
+unless b why rest = cond b rest (refused why)
 
 abbrev pub answerOf : Outcome → Answer
 answerOf (done S) = answer.Done
