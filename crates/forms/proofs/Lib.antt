@@ -1,6 +1,11 @@
 pub mod WordLaws
 pub mod Runs
+pub mod Stored
+pub mod Written
+pub mod Blank
 pub mod Small
 pub mod Rows
 pub mod Turns
 pub mod Nets
+pub mod States
+pub mod Image

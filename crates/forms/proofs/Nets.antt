@@ -1,16 +1,18 @@
 -- The check of a net: each fault is told exactly when document 01's table has it, and what is accepted is a net of the model.
 -- Assumes nothing.
-use mathlib.Core.Path.{_≡_, refl, sym, _∙_}
+use mathlib.Core.Path.{_≡_, refl, ap, _∙_}
 use mathlib.Core.Bool.{Bool, true, false, not}
 use mathlib.Core.Logic.{_↔_}
 use mathlib.Core.List.{List}
-use Prim.Native.Nat.{ℕ, zero, suc, _+_, _<_, _≤_}
+use Prim.Native.Nat.{ℕ, suc, _+_, _*_, _<_, _≤_, max}
+use native.Mathlib.Numerals.{add-one}
 use native.Mathlib.Omega.{arith}
 use lib.Dec.{eqb}
 use lib.ListN.{length}
-use Rattle.model.specs.Tab.{Tells, all}
-use Rattle.model.specs.Limits.{sized?, IsInterval, interval?}
-use Rattle.model.specs.Net.{Net, HasInput, HasOutput, Proper, Accepted}
+use Rattle.model.specs.declared.net.Net.{Net as Shape}
+use Rattle.model.specs.Tab.{Tells, all, largest}
+use Rattle.model.specs.Limits.{sized?, IsInterval, interval?, shapeOf}
+use Rattle.model.specs.Net.{Net, HasInput, HasOutput, Accepted, width}
 use Rattle.model.proofs.Tab.{both-tell, all-tells}
 use Rattle.model.proofs.Tests.{leb-tells, eqb-tells, not-tells, sized-tells, interval-tells, some-fails}
 use Rattle.forms.specs.declared.form.Fault.{Fault}
@@ -19,10 +21,12 @@ use Rattle.forms.specs.declared.form.Form.{Form}
 use Rattle.forms.specs.declared.form.Form.the-variants as form
 use Rattle.forms.specs.Form.{inTurn}
 use Rattle.forms.specs.Word.{Bytes, byte, word32}
-use Rattle.forms.specs.Places.{initialAt, netLength}
+use Rattle.forms.specs.Places.{initialAt, rowAt, rowLength, netLength}
 use Rattle.forms.specs.Stored.{netOf}
 use Rattle.forms.specs.Nets.{NetFramed, net-framed?, NetLong, RowGood, RowFaulty, IsNet, NetFaulty, some-weight?, checkRow, checkNet}
+use Rattle.forms.specs.Frame.{HasShape}
 use Rattle.forms.proofs.WordLaws.{word-fits}
+use Rattle.forms.proofs.Rows.{row-within}
 use Rattle.forms.proofs.Turns.{never, unless-good, past, fails, fault-by, turn-good, turn-bad}
 
 -- WHAT THE TESTS TELL
@@ -168,3 +172,41 @@ module _ (b : List ℕ) where
     sized = n .sized;
     short = λ t h. n .rows t h .interval .1;
   }
+
+-- WHAT A CHECKED NET GIVES THE CODE
+
+module _ (b : List ℕ) (n : IsNet b) where
+  pub net-head : 7 ≤ length b
+  net-head = n .framed .0
+
+  pub few-transitions : byte b 6 ≤ 64
+  few-transitions = n .sized .1 .1
+
+  pub few-places : byte b 5 ≤ 64
+  few-places = n .sized .0 .1
+
+  -- the row of a transition stands within
+  pub row-inside : (t : ℕ) → t < byte b 6 → rowAt (byte b 5) t + rowLength (byte b 5) ≤ length b
+  row-inside t h = omega (arith, n .long, row-within (byte b 5) t (byte b 6) h)
+
+  pub marking-inside : 7 + 2 * byte b 5 ≤ length b
+  unfolding rowAt
+  marking-inside = omega (arith, n .long)
+
+  pub lfd-short : (t : ℕ) → t < byte b 6 → netOf b .lfd t ≤ 63
+  lfd-short t h = n .rows t h .interval .1
+
+-- a turn of the loop that looks for the longest duration
+pub longest-turn : (f : ℕ → ℕ) (t l l′ d : ℕ) → l ≡ largest t f → d ≡ f t → l′ ≡ max d l → l′ ≡ largest (t + 1) f
+unfolding largest
+longest-turn f t l l′ d e g h = rw add-one (omega arith)
+
+-- the shape that the loop finds
+pub shape-found : (b : List ℕ) (shape : Shape) (P T l t : ℕ) → shape ≡ shapeOf P T (l + 1) → P ≡ byte b 5 → T ≡ byte b 6
+    → l ≡ largest t (netOf b .lfd) → t ≡ T → HasShape (netOf b) shape
+unfolding netOf width
+shape-found b shape P T l t s p q e h = record {
+  places-are = ap (λ (x : Shape). x .places) s ∙ p;
+  transitions-are = ap (λ (x : Shape). x .transitions) s ∙ q;
+  width-is = ap (λ (x : Shape). x .width) s ∙ add-one l ∙ ap suc (e ∙ rw (h ∙ q));
+}

@@ -1,13 +1,13 @@
 -- Runs and rows of words that are written one after the other. No contract cites this file.
 -- Assumes nothing.
-use mathlib.Core.Path.{_≡_, refl, ap, _∙_}
+use mathlib.Core.Path.{_≡_, refl, sym, ap, _∙_}
 use mathlib.Core.Logic.{by-cases}
 use mathlib.Core.List.{List}
 use Prim.Native.Nat.{ℕ, zero, suc, _+_, _*_, _≤_, _<_}
 use native.Mathlib.Decide.{ℕ-discrete}
 use native.Mathlib.Omega.{arith}
 use Rattle.forms.specs.Word.{Bytes, word, setWord, putWords, putRows}
-use Rattle.forms.proofs.WordLaws.{setWord-setWord, putWords-setWord, putWords-putWords, putWords-cong, putWords-own}
+use Rattle.forms.proofs.WordLaws.{putWords-zero, putWords-step, setWord-setWord, putWords-setWord, putWords-putWords, putWords-cong, putWords-own}
 
 -- a run that stands behind another may be written before it
 pub putWords-comm : (base : ℕ) (f : ℕ → ℕ) (n base′ : ℕ) (g : ℕ → ℕ) (m : ℕ) (s : List ℕ) → base + 2 * n ≤ base′
@@ -95,3 +95,16 @@ putWords-over base f s (suc n) i v h =
     (ap (λ (l : List ℕ). setWord l (base + 2 * n) (f n)) (putWords-setWord base f s n (base + 2 * n) v (omega arith))
     ∙ setWord-setWord (putWords base n f s) (base + 2 * n) v (f n)))
     (λ p. ap (λ (l : List ℕ). setWord l (base + 2 * n) (f n)) (putWords-over base f s n i v (omega arith)))
+
+-- A LOOP THAT WRITES A RUN, WORD BY WORD: it keeps that the first i words are written
+
+module _ (base : ℕ) (f : ℕ → ℕ) (s₀ : List ℕ) where
+  pub put-begin : s₀ ≡ putWords base 0 f s₀
+  put-begin = sym (putWords-zero base f s₀)
+
+  pub put-turn : (i : ℕ) (s s′ : List ℕ) (v : ℕ) → s ≡ putWords base i f s₀ → s′ ≡ setWord s (base + 2 * i) v → v ≡ f i
+      → s′ ≡ putWords base (i + 1) f s₀
+  put-turn i s s′ v inv wrote value = wrote ∙ rw (inv, value) (sym (putWords-step base f s₀ i))
+
+  pub put-end : (i n : ℕ) (s : List ℕ) → s ≡ putWords base i f s₀ → i ≡ n → s ≡ putWords base n f s₀
+  put-end i n s inv e = rw e at inv

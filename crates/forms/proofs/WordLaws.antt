@@ -9,13 +9,17 @@ use native.Mathlib.Numerals.{add-one}
 use native.Mathlib.Omega.{arith}
 use lib.ListN.{length, getD, set, length-set}
 use lib.Seq.{getD-set-same, getD-set-other, set-comm, set-set, set-getD, ext-getD}
-use Rattle.forms.specs.Word.{Bytes, word, setWord, putWords, putRows}
+use Rattle.forms.specs.Word.{Bytes, word, setWord, setWord32, putWords, putRows}
 
 -- ---- one word
 
 pub length-setWord : (s : List ℕ) (i v : ℕ) → length (setWord s i v) ≡ length s
 unfolding setWord
 length-setWord s i v = simp length-set
+
+pub length-setWord32 : (s : List ℕ) (i v : ℕ) → length (setWord32 s i v) ≡ length s
+unfolding setWord32
+length-setWord32 s i v = simp length-setWord
 
 -- the two bytes that a word is written as
 pub high : (s : List ℕ) (i v : ℕ) → i + 1 < length s → getD (setWord s i v) i 0 ≡ v / 256

@@ -2,6 +2,7 @@
 -- Assumes nothing.
 use Prim.Native.Nat.{ℕ, _+_, _-_, _*_}
 use Rattle.model.specs.declared.age.Column.{Column}
+use Rattle.model.specs.Net.{Net, width}
 
 -- A NET: version, length, P, T; P initial markings; for each transition a row of sfd, lfd, P input weights, P output weights
 
@@ -39,6 +40,9 @@ countAt P D t column = clockAt P + 2 * (t * D + (column .0 - 1))
 
 unfoldable pub stateLength : ℕ → ℕ → ℕ → ℕ
 stateLength P T D = clockAt P + 2 * (T * D)
+
+abbrev pub imageLength : Net → ℕ
+imageLength N = stateLength (N .places) (N .transitions) (width N)
 
 -- A LOG: version, length; events of two bytes
 

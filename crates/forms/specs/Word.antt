@@ -1,8 +1,11 @@
 -- Big-endian words of two and four bytes in a list of bytes, and runs of words put into it.
 -- Assumes nothing.
+use mathlib.Core.Bool.{Bool}
 use mathlib.Core.List.{List}
 use Prim.Native.Nat.{ℕ, zero, suc, _+_, _*_, _/_, _%_, _<_}
+use lib.Dec.{eqb}
 use lib.ListN.{getD, set}
+use Rattle.model.specs.Tab.{all}
 
 abbrev pub byte : List ℕ → ℕ → ℕ
 byte b i = getD b i 0
@@ -18,6 +21,10 @@ word b i = 256 * byte b i + byte b (i + 1)
 -- the word of four bytes that starts at i
 unfoldable pub word32 : List ℕ → ℕ → ℕ
 word32 b i = 65536 * word b i + word b (i + 2)
+
+-- the n words of two bytes from i on are all 0
+unfoldable pub blank? : List ℕ → ℕ → ℕ → Bool
+blank? b i n = all n (λ k. eqb (word b (i + 2 * k)) 0)
 
 -- b with v as the word of two bytes that starts at i
 unfoldable pub setWord : List ℕ → ℕ → ℕ → List ℕ

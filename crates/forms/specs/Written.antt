@@ -1,21 +1,25 @@
 -- A state written over the front of a buffer. The head of 8 bytes and the bytes behind the image stay.
 -- Assumes nothing.
+use mathlib.Core.Bool.{cond}
 use mathlib.Core.List.{List}
 use Prim.Native.Nat.{ℕ}
-use lib.ListN.{set}
+use lib.Dec.{leb}
+use lib.ListN.{length, set}
 use Rattle.model.specs.Net.{Net, State, width, tokens, count, initialState}
 use Rattle.forms.specs.Word.{setWord32, putWords, putRows}
-use Rattle.forms.specs.Places.{clockAt, stateLength}
+use Rattle.forms.specs.Places.{clockAt, stateLength, imageLength}
 
 unfoldable pub written : Net → State → List ℕ → List ℕ
 written N S b = putRows (clockAt (N .places)) (width N) (N .transitions) (count S) (putWords 8 (N .places) (tokens S) b)
 
--- the head of a state of N over the first 8 bytes: version, length, P, T, D
-unfoldable pub headed : Net → List ℕ → List ℕ
-headed N b =
-    set (set (set (setWord32 (set b 0 1) 1 (stateLength (N .places) (N .transitions) (width N)))
-    5 (N .places)) 6 (N .transitions)) 7 (width N)
+-- the head of a state over the first 8 bytes: version, length, P, T, D
+unfoldable pub headed : ℕ → ℕ → ℕ → List ℕ → List ℕ
+headed P T D b = setWord32 (set (set (set (set b 0 1) 5 P) 6 T) 7 D) 1 (stateLength P T D)
 
--- the whole image of the initial state over the front of a buffer
-unfoldable pub initialImage : Net → List ℕ → List ℕ
-initialImage N b = written N (initialState N) (headed N b)
+-- the whole image of a state over the front of a buffer
+unfoldable pub image : Net → State → List ℕ → List ℕ
+image N S b = written N S (headed (N .places) (N .transitions) (width N) b)
+
+-- the buffer after the initial state was asked for: its image, where there is room
+unfoldable pub afterInitial : Net → List ℕ → List ℕ
+afterInitial N b = cond (leb (imageLength N) (length b)) (image N (initialState N) b) b

@@ -80,6 +80,34 @@ fn check_rows(net: &[u8], transitions: usize) -> Form
     Form::Good
 }
 
+// The longest duration of transition t of a checked net.
+pub fn lfd(net: &[u8], t: usize) -> usize
+    requires { ⌜ IsNet (now net) × (t < byte (now net) 6) ⌝ }
+    ensures { λ r. ⌜ (r ≡ netOf (now (net .entry)) .lfd t) × (r < 255) ⌝ }
+{
+    let row = places::row_at(words::wide(net[5]), t);
+    words::wide(net[row + 1])
+}
+
+// The shape of a checked net: its width is one more than the longest duration.
+pub fn shape_of(net: &[u8]) -> Net
+    requires { ⌜ IsNet (now net) ⌝ }
+    ensures { λ r. ⌜ HasShape (netOf (now (net .entry))) r ⌝ }
+{
+    let places = words::wide(net[5]);
+    let transitions = words::wide(net[6]);
+    let mut longest = 0;
+    let mut t = 0;
+    while t < transitions {
+        let duration = lfd(net, t);
+        if longest < duration {
+            longest = duration;
+        }
+        t += 1;
+    }
+    Net::new(places, transitions, longest + 1)
+}
+
 // Checks the bytes of a net.
 pub fn check_net(net: &[u8]) -> Form
     ensures { λ r. ⌜ r ≡ checkNet (now (net .entry)) ⌝ }

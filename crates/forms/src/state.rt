@@ -1,0 +1,85 @@
+// The check of a state's bytes, numbers 8 and 9.
+use model::age::Age;
+use model::net::Net;
+use crate::form::Fault;
+use crate::form::Form;
+use crate::net;
+use crate::places;
+use crate::words;
+ghost use mathlib.Core.Path.{_≡_};
+ghost use Prim.Native.Nat.{_<_, _≤_};
+ghost use Rattle.forms.specs.Word.{byte};
+ghost use Rattle.forms.specs.Form.{inTurn};
+ghost use Rattle.forms.specs.Stored.{netOf};
+ghost use Rattle.forms.specs.States.{StateFramed, has-head?, checkCounts, checkState};
+ghost use Rattle.forms.specs.Frame.{FramedNet};
+
+// Version 1, P, T and D the net's, the length the formula's, and the buffer at least as long.
+fn has_head(shape: Net, state: &[u8]) -> bool
+    requires { ⌜ (shape .places < 256) × (shape .transitions < 256) × (shape .width ≤ 256) ⌝ }
+    ensures { λ r. ⌜ r ≡ has-head? (shape .places) (shape .transitions) (shape .width) (now (state .entry)) ⌝ }
+{
+    if state.len() < 8 {
+        return false;
+    }
+    if state[0] != 1 {
+        return false;
+    }
+    let length = places::state_length(shape);
+    if words::read32(state, 1) != length {
+        return false;
+    }
+    if words::wide(state[5]) != shape.places {
+        return false;
+    }
+    if words::wide(state[6]) != shape.transitions {
+        return false;
+    }
+    if words::wide(state[7]) != shape.width {
+        return false;
+    }
+    length <= state.len()
+}
+
+// Transition t: no count stands at an age above its lfd.
+fn check_counts(net: &[u8], shape: Net, state: &[u8], t: usize) -> Form
+    requires { ⌜ FramedNet (now net) shape ⌝ }
+    requires { ⌜ StateFramed (netOf (now net)) (now state) × (t < byte (now net) 6) ⌝ }
+    ensures { λ r. ⌜ r ≡ checkCounts (netOf (now (net .entry))) (now (state .entry)) t ⌝ }
+{
+    let above = net::lfd(net, t) + 1;
+    let at = places::count_at(shape, t, Age(above as u8).column());
+    if !words::blank(state, at, shape.width - above) {
+        return Form::Bad(Fault::PastLongest(t));
+    }
+    Form::Good
+}
+
+// The transitions in turn, from the lowest.
+fn check_all_counts(net: &[u8], shape: Net, state: &[u8]) -> Form
+    requires { ⌜ FramedNet (now net) shape ⌝ }
+    requires { ⌜ StateFramed (netOf (now net)) (now state) ⌝ }
+    ensures { λ r. ⌜ r ≡ inTurn (checkCounts (netOf (now (net .entry))) (now (state .entry))) 0 (netOf (now (net .entry)) .transitions) ⌝ }
+{
+    let transitions = shape.transitions;
+    let mut t = 0;
+    while t < transitions {
+        let counts = check_counts(net, shape, state, t);
+        let Form::Good = counts else {
+            return counts;
+        };
+        t += 1;
+    }
+    Form::Good
+}
+
+// Checks that a state of the net stands at the front of the buffer.
+pub fn check_state(net: &[u8], shape: Net, state: &[u8]) -> Form
+    requires { ⌜ FramedNet (now net) shape ⌝ }
+    ensures { λ r. ⌜ r ≡ checkState (netOf (now (net .entry))) (now (state .entry)) ⌝ }
+{
+    if !has_head(shape, state) {
+        return Form::Bad(Fault::StateFrame);
+    }
+    check_all_counts(net, shape, state)
+}
