@@ -16,11 +16,11 @@ use Rattle.model.specs.Net.{Net, State, Lawful, Initial, width, tokens, count, 
 use Rattle.model.proofs.Shape.{initial-exact}
 use Rattle.forms.specs.declared.form.Fault.the-variants as fault
 use Rattle.forms.specs.declared.form.Form.the-variants as form
-use Rattle.forms.specs.Word.{byte, word, word32, setWord, setWord32, putWords, putRows}
+use Rattle.forms.specs.Word.{byte, word, word32, setWord, setWord32, putWords}
 use Rattle.forms.specs.Places.{initialAt, stateLength, imageLength}
 use Rattle.forms.specs.Stored.{netOf, stateOf}
 use Rattle.forms.specs.Written.{written, headed, image, afterInitial}
-use Rattle.forms.specs.States.{HasHead, IsState, checkRoom}
+use Rattle.forms.specs.States.{IsState, checkRoom}
 use Rattle.forms.specs.Frame.{HasShape}
 use Rattle.forms.proofs.WordLaws.{length-setWord, length-setWord32, byte-other, word-same, word-before, putWords-cong}
 use Rattle.forms.proofs.Runs.{putRows-flat}
@@ -96,7 +96,7 @@ module _ (P T D : ℕ) (b : List ℕ) (room : 8 ≤ length b) where
       ∙ getD-set-other b 0 i 1 0 (λ e. omega arith)
 
 -- two lists that agree on the head agree on the length that stands there
-head-word : (x y : List ℕ) → ((i : ℕ) → i < 8 → byte x i ≡ byte y i) → word32 x 1 ≡ word32 y 1
+pub head-word : (x y : List ℕ) → ((i : ℕ) → i < 8 → byte x i ≡ byte y i) → word32 x 1 ≡ word32 y 1
 unfolding word32 word
 head-word x y same =
     omega (arith, same 1 (omega arith), same 2 (omega arith), same 3 (omega arith), same 4 (omega arith))

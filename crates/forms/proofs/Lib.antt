@@ -8,4 +8,11 @@ pub mod Rows
 pub mod Turns
 pub mod Nets
 pub mod States
+pub mod Logs
 pub mod Image
+pub mod ListedNet
+pub mod Pieces
+pub mod ListedState
+pub mod Frames
+pub mod Cases
+pub mod Determined

@@ -1,7 +1,7 @@
 -- The check of a net: each fault is told exactly when document 01's table has it, and what is accepted is a net of the model.
 -- Assumes nothing.
 use mathlib.Core.Path.{_≡_, refl, ap, _∙_}
-use mathlib.Core.Bool.{Bool, true, false, not}
+use mathlib.Core.Bool.{true, false}
 use mathlib.Core.Logic.{_↔_}
 use mathlib.Core.List.{List}
 use Prim.Native.Nat.{ℕ, suc, _+_, _*_, _<_, _≤_, max}
@@ -10,7 +10,7 @@ use native.Mathlib.Omega.{arith}
 use lib.Dec.{eqb}
 use lib.ListN.{length}
 use Rattle.model.specs.declared.net.Net.{Net as Shape}
-use Rattle.model.specs.Tab.{Tells, all, largest}
+use Rattle.model.specs.Tab.{Tells, largest}
 use Rattle.model.specs.Limits.{sized?, IsInterval, interval?, shapeOf}
 use Rattle.model.specs.Net.{Net, HasInput, HasOutput, Accepted, width}
 use Rattle.model.proofs.Tab.{both-tell, all-tells}
@@ -102,8 +102,8 @@ module _ (N : Net) (t : ℕ) where
   unfolding checkRow
   row-faulty why = (
     fault-by (fault.NoInterval t) _ interval-is (λ f q. rw q (RowFaulty.no-interval f)) (λ i.
-    fault-by (fault.NoInput t) _ input-is (λ f q. rw q (RowFaulty.no-input i f)) (λ p.
-    fault-by (fault.NoOutput t) _ output-is (λ f q. rw q (RowFaulty.no-output i p f)) (λ _. never))),
+        fault-by (fault.NoInput t) _ input-is (λ f q. rw q (RowFaulty.no-input i f)) (λ p.
+        fault-by (fault.NoOutput t) _ output-is (λ f q. rw q (RowFaulty.no-output i p f)) (λ _. never))),
     told,
   )
     where
@@ -152,10 +152,10 @@ module _ (b : List ℕ) where
   unfolding checkNet
   net-faulty why = (
     fault-by fault.NetFrame _ (net-framed-tells b) (λ a q. rw q (NetFaulty.frame a)) (λ f.
-    fault-by fault.NetSize _ (sized-tells (byte b 5) (byte b 6)) (λ a q. rw q (NetFaulty.size f a)) (λ s.
-    fault-by fault.NetLength _ (net-long-tells b) (λ a q. rw q (NetFaulty.length-wrong f s a)) (λ l e.
-    let (t, h, lower, r) = turn-bad (checkRow (netOf b)) (byte b 6) why .0 e in
-    NetFaulty.row f s l h (λ u k. row-exact (netOf b) u .0 (lower u k)) (row-faulty (netOf b) t why .0 r)))),
+        fault-by fault.NetSize _ (sized-tells (byte b 5) (byte b 6)) (λ a q. rw q (NetFaulty.size f a)) (λ s.
+        fault-by fault.NetLength _ (net-long-tells b) (λ a q. rw q (NetFaulty.length-wrong f s a)) (λ l e.
+        let (t, h, lower, r) = turn-bad (checkRow (netOf b)) (byte b 6) why .0 e in
+        NetFaulty.row f s l h (λ u k. row-exact (netOf b) u .0 (lower u k)) (row-faulty (netOf b) t why .0 r)))),
     told-net,
   )
 

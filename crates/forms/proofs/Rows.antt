@@ -1,18 +1,16 @@
 -- The check of one transition, and of all in turn, as the code goes through them.
 -- Assumes nothing.
-use mathlib.Core.Path.{_≡_, refl, sym, _∙_}
-use mathlib.Core.Bool.{Bool, true, false}
+use mathlib.Core.Path.{_≡_, _∙_}
+use mathlib.Core.Bool.{true, false}
 use mathlib.Core.List.{List}
-use Prim.Native.Nat.{ℕ, zero, suc, _+_, _-_, _*_, _<_, _≤_}
+use Prim.Native.Nat.{ℕ, _+_, _<_, _≤_}
 use native.Mathlib.Nat.{mul-le-mul-right}
 use native.Mathlib.Omega.{arith}
-use lib.ListN.{length}
 use Rattle.model.specs.Limits.{interval?}
 use Rattle.model.specs.Net.{Net}
 use Rattle.forms.specs.declared.form.Fault.the-variants as fault
 use Rattle.forms.specs.declared.form.Form.{Form}
 use Rattle.forms.specs.declared.form.Form.the-variants as form
-use Rattle.forms.specs.Form.{inTurn}
 use Rattle.forms.specs.Word.{byte}
 use Rattle.forms.specs.Places.{rowAt, rowLength}
 use Rattle.forms.specs.Stored.{netOf}

@@ -2,7 +2,7 @@
 -- model.
 -- Assumes nothing.
 use mathlib.Core.Path.{_≡_, refl, sym, ap, _∙_}
-use mathlib.Core.Bool.{Bool, true, false}
+use mathlib.Core.Bool.{false}
 use mathlib.Core.Logic.{_↔_}
 use mathlib.Core.List.{List}
 use Prim.Native.Nat.{ℕ, suc, _+_, _-_, _*_, _<_, _≤_}
@@ -18,12 +18,18 @@ use Rattle.model.specs.Net.{Net, Lawful, width}
 use Rattle.model.proofs.Tab.{both-tell, all-tells}
 use Rattle.model.proofs.Shape.{lfd-fits, width-short}
 use Rattle.model.proofs.Tests.{leb-tells, eqb-tells, told-false}
-use Rattle.model.proofs.Alls.{tells-same}
+use Rattle.forms.specs.declared.form.Fault.{Fault}
+use Rattle.forms.specs.declared.form.Fault.the-variants as fault
+use Rattle.forms.specs.declared.form.Form.{Form}
+use Rattle.forms.specs.declared.form.Form.the-variants as form
 use Rattle.forms.specs.Word.{Bytes, byte, word, word32, blank?}
-use Rattle.forms.specs.Places.{countAt, stateLength}
+use Rattle.forms.specs.Places.{markAt, clockAt, countAt, stateLength, imageLength}
 use Rattle.forms.specs.Stored.{netOf, stateOf}
-use Rattle.forms.specs.States.{HasHead, has-head?, StateFramed, storedCount, NonePast, none-past?}
+use Rattle.forms.specs.States.{HasHead, has-head?, StateFramed, NonePast, none-past?, IsState, StateFaulty, checkCounts, checkState, checkRoom}
 use Rattle.forms.specs.Frame.{FramedNet}
+use Rattle.forms.proofs.WordLaws.{word-fits}
+use Rattle.forms.proofs.Stored.{count-place, state-shaped, tokens-are, count-is, count-at}
+use Rattle.forms.proofs.Turns.{never, unless-good, past, fails, fault-by, turn-good, turn-bad}
 use Rattle.forms.proofs.Nets.{few-places, few-transitions, lfd-short}
 
 -- THE HEAD
@@ -99,3 +105,86 @@ module _ (net : List ℕ) (shape : Shape) (f : FramedNet net shape) where
   past-is b t l at c e g h =
       let above : l + 1 ≡ suc (netOf net .lfd t) = add-one l ∙ ap suc e in
       rw (h, g, above, f .has-shape .places-are, f .has-shape .width-is)
+
+-- 8 AND 9
+
+module _ (N : Net) (b : List ℕ) where
+  -- what is asked of the words above the lfd is asked of every age above it
+  pub none-past-tells : (t : ℕ) → t < N .transitions → Tells (none-past? N b t) (NonePast N b t)
+  unfolding none-past? blank?
+  none-past-tells t l =
+      let D = width N in
+      let lfd = N .lfd t in
+      let at = countAt (N .places) D t (columnOf (record { 0 = suc lfd })) in
+      let each = all-tells (D - suc lfd) (λ i. eqb-tells (word b (at + 2 * i)) 0) in
+      record {
+        sound = λ x j k h. ap (word b) (place (suc lfd) (j - suc lfd) j (omega arith)) ∙ each .sound x (j - suc lfd) (omega arith);
+        complete = λ g. each .complete (λ i k. ap (word b) (sym (place (suc lfd) i (suc lfd + i) (omega arith))) ∙ g (suc lfd + i) (omega arith) (omega arith));
+      }
+    where
+      -- the word i behind that of age `above` is that of age `above + i`
+      place : (above i j : ℕ) → above + i ≡ j
+          → countAt (N .places) (width N) t (columnOf (record { 0 = j })) ≡ countAt (N .places) (width N) t (columnOf (record { 0 = above })) + 2 * i
+      place above i j e = omega (arith, count-place (N .places) (width N) t j, count-place (N .places) (width N) t above)
+
+  abbrev counts : ℕ → Form
+  counts = checkCounts N b
+
+  counts-good : (t : ℕ) → t < N .transitions → (counts t ≡ form.Good) ↔ NonePast N b t
+  counts-good t l =
+      let passes = unless-good {B = Unit {0}} (fault.PastLongest t) (none-past-tells t l) ((λ _. tt), λ _. refl) in
+      ((λ e. passes .0 e .0), λ n. passes .1 (n, tt))
+
+  counts-bad : (t : ℕ) → t < N .transitions → (why : Fault) → counts t ≡ form.Bad why → (¬ NonePast N b t) × (why ≡ fault.PastLongest t)
+  counts-bad t l why = fault-by (fault.PastLongest t) _ (none-past-tells t l) (λ f q. (f, q)) (λ _. never)
+
+  abbrev head-is : Tells (has-head? (N .places) (N .transitions) (width N) b) (StateFramed N b)
+  head-is = has-head-tells (N .places) (N .transitions) (width N) b
+
+  -- neither 8 nor 9 is told exactly where a state of N stands at the front
+  pub state-exact : (checkState N b ≡ form.Good) ↔ IsState N b
+  unfolding checkState
+  state-exact =
+      let passes = unless-good fault.StateFrame head-is (turn-good counts (N .transitions)) in (
+        (λ e. let (f, all) = passes .0 e in record { framed = f; none-past = λ t l. counts-good t l .0 (all t l) }),
+        λ s. passes .1 (s .framed, λ t l. counts-good t l .1 (s .none-past t l)),
+      )
+
+  told-state : {why : Fault} → StateFaulty N b why → checkState N b ≡ form.Bad why
+  unfolding checkState
+  told-state (StateFaulty.frame f) = fails fault.StateFrame _ head-is f
+  told-state (StateFaulty.past-longest {t} f l lower no-more) =
+      past fault.StateFrame head-is f
+      (turn-bad counts (N .transitions) (fault.PastLongest t) .1
+      (t, l, (λ u k. counts-good u (omega arith) .1 (lower u k)), fails (fault.PastLongest t) _ (none-past-tells t l) no-more))
+
+  -- and each is told exactly when document 01's table has it
+  pub state-faulty : (why : Fault) → (checkState N b ≡ form.Bad why) ↔ StateFaulty N b why
+  unfolding checkState
+  state-faulty why = (
+    fault-by fault.StateFrame _ head-is (λ a q. rw q (StateFaulty.frame a)) (λ f e.
+        let (t, l, lower, bad) = turn-bad counts (N .transitions) why .0 e in
+        let (more, q) = counts-bad t l why bad in
+        rw q (StateFaulty.past-longest f l (λ u k. counts-good u (omega arith) .0 (lower u k)) more)),
+    told-state,
+  )
+
+  -- what is accepted is a lawful state of N
+  pub state-lawful : Bytes b → IsState N b → Lawful N (stateOf N b)
+  state-lawful small s = record {
+    shaped = state-shaped N b;
+    none-past-lfd = λ t j l k h. count-is N b t j l k ∙ s .none-past t l j k h;
+    tokens-fit = λ p l. omega (arith, tokens-are N b p l, word-fits b (markAt p) small);
+    counts-fit = λ t j l k. omega (arith, count-at N b t j l k, word-fits b (clockAt (N .places) + 2 * (t * width N + j)) small);
+  }
+
+-- 7
+pub room-exact : (N : Net) (b : List ℕ) → (checkRoom N b ≡ form.Bad fault.NoRoom) ↔ (length b < imageLength N)
+unfolding checkRoom
+room-exact N b = (
+  fault-by fault.NoRoom _ (leb-tells (imageLength N) (length b)) (λ f _. short (imageLength N) (length b) f) (λ _. never),
+  λ h. fails fault.NoRoom _ (leb-tells (imageLength N) (length b)) (λ l. omega arith),
+)
+  where
+    short : (m n : ℕ) → ¬ (m ≤ n) → n < m
+    short m n f = omega arith

@@ -1,13 +1,17 @@
 -- What the functions behind the checks ask of their callers, and what the checks give: bytes in their frame.
 -- Assumes nothing.
 use mathlib.Core.Path.{_≡_}
-use mathlib.Core.List.{List}
+use mathlib.Core.List.{List, _++_}
 use Prim.Native.Nat.{ℕ}
+use lib.ListN.{drop}
 use Rattle.model.specs.declared.net.Net.{Net as Shape}
-use Rattle.model.specs.Net.{Net, width}
-use Rattle.forms.specs.Stored.{netOf}
+use Rattle.model.specs.Net.{Net, width, initialState}
+use Rattle.forms.specs.declared.form.Form.the-variants as form
+use Rattle.forms.specs.Places.{imageLength}
+use Rattle.forms.specs.Stored.{netOf, stateOf}
+use Rattle.forms.specs.Listed.{stateBytes}
 use Rattle.forms.specs.Nets.{IsNet}
-use Rattle.forms.specs.States.{IsState}
+use Rattle.forms.specs.States.{IsState, checkState}
 
 -- the shape is N's
 pub record HasShape (N : Net) (shape : Shape) : Type 0 where
@@ -24,3 +28,9 @@ pub record FramedNet (net : List ℕ) (shape : Shape) : Type 0 where
 pub record Framed (net : List ℕ) (shape : Shape) (state : List ℕ) : Type 0 where
   pub net-framed : FramedNet net shape
   pub is-state : IsState (netOf net) state
+
+-- b′ is b with the whole image of the net's initial state at its front: it is accepted, and reads as that state
+pub record Began (net : List ℕ) (b b′ : List ℕ) : Type 0 where
+  pub whole : b′ ≡ stateBytes (netOf net) (initialState (netOf net)) ++ drop (imageLength (netOf net)) b
+  pub accepted : checkState (netOf net) b′ ≡ form.Good
+  pub reads : stateOf (netOf net) b′ ≡ initialState (netOf net)

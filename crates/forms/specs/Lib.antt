@@ -2,8 +2,10 @@ pub mod Form
 pub mod Word
 pub mod Places
 pub mod Stored
+pub mod Listed
 pub mod Written
 pub mod Nets
 pub mod States
 pub mod Logs
 pub mod Frame
+pub mod Cases

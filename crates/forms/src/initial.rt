@@ -1,9 +1,9 @@
 // The initial state, number 7.
-use model::net::Net;
 use crate::form::Fault;
 use crate::form::Form;
 use crate::places;
 use crate::words;
+use model::net::Net;
 ghost use mathlib.Core.Path.{_≡_};
 ghost use Prim.Native.Nat.{_+_, _*_, _<_, _≤_};
 ghost use lib.ListN.{length};

@@ -1,15 +1,12 @@
 // The check of a net's bytes, numbers 1 to 6, and the shape of a checked net.
-use model::net::Net;
 use crate::form::Fault;
 use crate::form::Form;
 use crate::places;
 use crate::words;
+use model::net::Net;
 ghost use mathlib.Core.Path.{_≡_};
-ghost use mathlib.Core.Bool.{not};
-ghost use Prim.Native.Nat.{_+_, _*_, _<_, _≤_};
-ghost use lib.Dec.{eqb};
+ghost use Prim.Native.Nat.{_+_, _<_, _≤_};
 ghost use lib.ListN.{length};
-ghost use Rattle.model.specs.Tab.{all};
 ghost use Rattle.forms.specs.Word.{byte};
 ghost use Rattle.forms.specs.Places.{rowAt, rowLength};
 ghost use Rattle.forms.specs.Stored.{netOf};

@@ -1,11 +1,11 @@
 // The check of a state's bytes, numbers 8 and 9.
-use model::age::Age;
-use model::net::Net;
 use crate::form::Fault;
 use crate::form::Form;
 use crate::net;
 use crate::places;
 use crate::words;
+use model::age::Age;
+use model::net::Net;
 ghost use mathlib.Core.Path.{_≡_};
 ghost use Prim.Native.Nat.{_<_, _≤_};
 ghost use Rattle.forms.specs.Word.{byte};

@@ -1,6 +1,5 @@
 -- `initial::initial` meets its contract: head, marking and zeros are the image of the initial state.
 -- Assumes nothing.
-use mathlib.Core.Path.{_≡_, _∙_}
 use Prim.Native.Nat.{_≤_, _*_, _+_}
 use native.Mathlib.Omega.{arith}
 use lib.ListN.{length}
@@ -19,7 +18,7 @@ unfolding stateLength
 enough q = omega (arith, q .before .state-length .ensures .0)
 
 state-length-requires : tie.Need-state-length-requires
-state-length-requires c κs = 
+state-length-requires c κs =
     let e = c .before .before in
     let net = e .args .net .now in
     let f = e .pre in
@@ -29,35 +28,35 @@ returns : tie.Need-returns
 returns c = let e = c .before .before .before .before in no-room (e .args .net .now) (e .args .shape) (e .pre .has-shape) (e .args .state .now) (omega (arith, c .before .state-length .ensures .0))
 
 write-head-requires : tie.Need-write-head-requires
-write-head-requires c κs = 
+write-head-requires c κs =
     let e = c .before .before .before .before .before in
     let net = e .args .net .now in
     let f = e .pre in
     (omega (arith, places-small net (e .args .shape) f), omega (arith, transitions-small net (e .args .shape) f), omega (arith, width-small net (e .args .shape) f), omega (arith, enough (c .before)))
 
 write-marking-requires : tie.Need-write-marking-requires
-write-marking-requires c κs = 
+write-marking-requires c κs =
     let e = c .before .before .before .before .before .before .before .before .before in
     let net = e .args .net .now in
     let f = e .pre in
     (omega (arith, marking-inside net (f .is-net), places-same net (e .args .shape) f), omega (arith, enough (c .before .before .before .before .before)))
 
 mul-clear : tie.Need-mul-clear
-mul-clear c = 
+mul-clear c =
     let e = c .before .before .before .before .before .before .before .before .before .before .before .before .before .before in
     let net = e .args .net .now in
     let f = e .pre in
     omega (arith, places-small net (e .args .shape) f)
 
 add-clear : tie.Need-add-clear
-add-clear c = 
+add-clear c =
     let e = c .before .before .before .before .before .before .before .before .before .before .before .before .before .before in
     let net = e .args .net .now in
     let f = e .pre in
     omega (arith, places-small net (e .args .shape) f)
 
 mul-clear-2 : tie.Need-mul-clear-2
-mul-clear-2 c = 
+mul-clear-2 c =
     let e = c .before .before .before .before .before .before .before .before .before .before .before .before .before .before .before in
     let net = e .args .net .now in
     let f = e .pre in
@@ -71,7 +70,7 @@ same-length : tie.Need-same-length
 same-length c = search needs
 
 returns-2 : tie.Need-returns-2
-returns-2 c = 
+returns-2 c =
     let e = c .before .before .before .before .before .before .before .before .before .before .before .before .before .before .before .before .before .before in
     let wrote = rw (c .before .before .before .before .before .before .before .before .write-marking .ensures, c .before .before .before .before .before .before .before .before .before .before .before .before .write-head .ensures) at (c .before .before .clear .ensures) in
     room (e .args .net .now) (e .args .shape) (e .pre .has-shape) (e .args .state .now) (omega (arith, c .before .before .before .before .before .before .before .before .before .before .before .before .before .before .before .state-length .ensures .0)) _ wrote

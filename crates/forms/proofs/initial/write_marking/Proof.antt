@@ -1,7 +1,7 @@
 -- `initial::write_marking` meets its contract. The loop keeps that the first p words are written.
 -- Assumes nothing.
 use mathlib.Core.Path.{_≡_, refl}
-use Prim.Native.Nat.{ℕ, _-_, _≤_}
+use Prim.Native.Nat.{_-_, _≤_}
 use native.Mathlib.Omega.{arith}
 use lib.ListN.{length}
 use Rattle.forms.specs.Word.{word, putWords}
@@ -45,21 +45,20 @@ loop-less : tie.Need-loop-less Inv-loop μ-loop
 loop-less c = search needs
 
 loop-again : tie.Need-loop-again Inv-loop μ-loop
-loop-again c = 
+loop-again c =
     let at = c .before .before .before .before .before .before in
-    let a = at .before .before .before .args in
-    (
+    let a = at .before .before .before .args in (
       omega arith,
       omega arith,
       put-turn 8 (λ p. word (a .net .now) (initialAt p)) (a .state .now) (at .loop .p) (at .loop .state) _ (c .before .before .before .read16 .result)
-      (at .loop .inv .2) (c .before .before .write16 .ensures) (c .before .before .before .read16 .ensures .0),
+          (at .loop .inv .2) (c .before .before .write16 .ensures) (c .before .before .before .read16 .ensures .0),
     )
 
 same-length : tie.Need-same-length Inv-loop μ-loop
 same-length c = search needs
 
 returns : tie.Need-returns Inv-loop μ-loop
-returns c = 
+returns c =
     let at = c .before in
     let a = at .before .before .before .args in
     put-end 8 (λ p. word (a .net .now) (initialAt p)) (a .state .now) (at .loop .p) (a .places) (at .loop .state) (at .loop .inv .2) (omega arith)

@@ -60,12 +60,12 @@ returns-3 : tie.Need-returns-3
 returns-3 c = net-no-length (c .before .before .before .before .before .before .before .before .before .before .before .args .net .now) (framed (c .before .before .before .before .before .before .before .before)) (passed (sized (c .before .before .before)) (c .before .before .if2 .left)) (ne-eqb _ _ (λ e. c .if3 .taken (e ∙ sym (long (c .before)))))
 
 check-rows-requires : tie.Need-check-rows-requires
-check-rows-requires c κs = 
+check-rows-requires c κs =
     let places = c .before .before .before .before .before .before .wide .ensures .0 in
     (seven (c .before .before .before .before .before .before .before .before), c .before .before .before .before .wide2 .ensures .0, c .before .before .before .before .wide2 .ensures .1, rw (← places) (omega (arith, c .before .row-at .ensures .0)))
 
 returns-4 : tie.Need-returns-4
-returns-4 c = 
+returns-4 c =
     c .check-rows .ensures
     ∙ net-rows (c .before .before .before .before .before .before .before .before .before .before .before .before .args .net .now) (framed (c .before .before .before .before .before .before .before .before .before)) (passed (sized (c .before .before .before .before)) (c .before .before .before .if2 .left)) (eq-eqb _ _ (c .before .if3 .left ∙ long (c .before .before)))
 

@@ -26,8 +26,10 @@ timed k =
     let q = k .before .before .before .before .before in
     let P = q .before .wide in
     k .is-interval .ensures
-    ∙ rw (sfd-is (a .net .now) (a .t) (P .result) (q .row-at .result) (P .ensures .0) (q .row-at .ensures .0) (k .before .before .before .wide2 .result) (k .before .before .before .wide2 .ensures .0),
-    lfd-is (a .net .now) (a .t) (P .result) (q .row-at .result) (P .ensures .0) (q .row-at .ensures .0) (k .before .wide3 .result) (k .before .wide3 .ensures .0))
+    ∙ rw (
+      sfd-is (a .net .now) (a .t) (P .result) (q .row-at .result) (P .ensures .0) (q .row-at .ensures .0) (k .before .before .before .wide2 .result) (k .before .before .before .wide2 .ensures .0),
+      lfd-is (a .net .now) (a .t) (P .result) (q .row-at .result) (P .ensures .0) (q .row-at .ensures .0) (k .before .wide3 .result) (k .before .wide3 .ensures .0),
+    )
 
 fed : (k : tie.After-some-weight) → k .some-weight .result
     ≡ some-weight? (netOf (k .before .before .before .before .before .before .before .before .before .before .before .args .net .now) .places) (netOf (k .before .before .before .before .before .before .before .before .before .before .before .args .net .now) .takes (k .before .before .before .before .before .before .before .before .before .before .before .args .t))
@@ -82,7 +84,7 @@ some-weight-requires : tie.Need-some-weight-requires
 some-weight-requires c κs = omega (arith, here (c .before .before .before .before .before .before))
 
 returns-2 : tie.Need-returns-2
-returns-2 c = 
+returns-2 c =
     row-no-input (netOf (c .before .before .before .before .before .before .before .before .before .before .before .before .args .net .now)) (c .before .before .before .before .before .before .before .before .before .before .before .before .args .t) (passed (timed (c .before .before .before)) (c .before .before .if1 .left)) (failed (fed (c .before)) (c .if2 .taken))
 
 add-some-weight-2 : tie.Need-add-some-weight-2
@@ -95,12 +97,12 @@ some-weight-requires-2 : tie.Need-some-weight-requires-2
 some-weight-requires-2 c κs = omega (arith, here (c .before .before .before .before .before .before .before .before))
 
 returns-3 : tie.Need-returns-3
-returns-3 c = 
+returns-3 c =
     row-no-output (netOf (c .before .before .before .before .before .before .before .before .before .before .before .before .before .before .args .net .now)) (c .before .before .before .before .before .before .before .before .before .before .before .before .before .before .args .t) (passed (timed (c .before .before .before .before .before)) (c .before .before .before .before .if1 .left))
     (passed (fed (c .before .before .before)) (c .before .before .if2 .left)) (failed (feeds (c .before)) (c .if3 .taken))
 
 returns-4 : tie.Need-returns-4
-returns-4 c = 
+returns-4 c =
     row-good (netOf (c .before .before .before .before .before .before .before .before .before .before .before .before .before .before .args .net .now)) (c .before .before .before .before .before .before .before .before .before .before .before .before .before .before .args .t) (passed (timed (c .before .before .before .before .before)) (c .before .before .before .before .if1 .left))
     (passed (fed (c .before .before .before)) (c .before .before .if2 .left)) (passed (feeds (c .before)) (c .if3 .left))
 

@@ -1,7 +1,7 @@
 -- `net::check_rows` meets its contract. The loop keeps that the rows that are left give the answer of all.
 -- Assumes nothing.
-use mathlib.Core.Path.{_≡_, ap, _∙_}
-use Prim.Native.Nat.{ℕ, _-_, _≤_}
+use mathlib.Core.Path.{ap, _∙_}
+use Prim.Native.Nat.{_-_, _≤_}
 use native.Mathlib.Omega.{arith}
 use Rattle.forms.specs.Word.{byte}
 use Rattle.forms.specs.Form.{inTurn}
@@ -23,7 +23,7 @@ loop-holds : tie.Need-loop-holds Inv-loop μ-loop
 loop-holds c = let a = c .before .args in (omega arith, left-begin (checkRow (netOf (a .net .now))) (a .transitions))
 
 check-row-requires : tie.Need-check-row-requires Inv-loop μ-loop
-check-row-requires c κs = 
+check-row-requires c κs =
     let at = c .before in
     let a = at .before .before .args in
     (omega arith, omega arith, omega (arith, row-within (byte (a .net .now) 5) (at .loop .t) (a .transitions) (omega arith)))
@@ -35,7 +35,7 @@ enum-told-2 : tie.Need-enum-told-2 Inv-loop μ-loop
 enum-told-2 c = search needs
 
 returns : tie.Need-returns Inv-loop μ-loop
-returns c = 
+returns c =
     let k = c .before .before in
     let at = k .before .before in
     let e = at .before .before in
@@ -50,15 +50,17 @@ loop-less : tie.Need-loop-less Inv-loop μ-loop
 loop-less c = search needs
 
 loop-again : tie.Need-loop-again Inv-loop μ-loop
-loop-again c = 
+loop-again c =
     let k = c .before .before in
     let at = k .before .before in
-    let e = at .before .before in
-    (omega arith, left-turn (checkRow (netOf (e .args .net .now))) (e .args .transitions) (at .loop .t) (at .loop .inv .1) (omega arith)
-    (k .check-row .result) (k .check-row .ensures) (c .enum-told .given .1))
+    let e = at .before .before in (
+      omega arith,
+      left-turn (checkRow (netOf (e .args .net .now))) (e .args .transitions) (at .loop .t) (at .loop .inv .1) (omega arith)
+          (k .check-row .result) (k .check-row .ensures) (c .enum-told .given .1),
+    )
 
 returns-2 : tie.Need-returns-2 Inv-loop μ-loop
-returns-2 c = 
+returns-2 c =
     let at = c .before in
     let e = at .before .before in
     left-end (checkRow (netOf (e .args .net .now))) (e .args .transitions) (at .loop .t) (at .loop .inv .1) (omega arith)

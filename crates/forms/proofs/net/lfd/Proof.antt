@@ -20,7 +20,7 @@ add-wide : tie.Need-add-wide
 add-wide c = search needs
 
 shared-slice-read-wide-2 : tie.Need-shared-slice-read-wide-2
-shared-slice-read-wide-2 c = 
+shared-slice-read-wide-2 c =
     let q = c .before in
     let e = q .before .before .before .before in
     let b = e .args .net .now in
@@ -30,7 +30,7 @@ wide-requires-2 : tie.Need-wide-requires-2
 wide-requires-2 c κs = search needs
 
 returns : tie.Need-returns
-returns c = 
+returns c =
     let q = c .before .before in
     let e = q .before .before .before .before in
     let b = e .args .net .now in

@@ -2,7 +2,7 @@
 -- Assumes nothing.
 use mathlib.Core.Path.{_≡_, refl}
 use mathlib.Core.Logic.{⊎-elim}
-use Prim.Native.Nat.{ℕ, _-_, _≤_, _<_, max}
+use Prim.Native.Nat.{_-_, _≤_, _<_, max}
 use native.Mathlib.Omega.{arith}
 use Rattle.model.specs.Tab.{largest}
 use Rattle.forms.specs.Word.{byte}
@@ -13,7 +13,7 @@ use Rattle.forms.proofs.net.shape_of.Statement.{statement}
 use Rattle.forms.proofs.net.shape_of.Tie as tie
 
 abbrev Inv-loop : tie.InvT-loop
-Inv-loop net places transitions longest₀ t₀ longest t = 
+Inv-loop net places transitions longest₀ t₀ longest t =
     (t ≤ transitions) × (longest ≡ largest t (netOf net .lfd)) × (longest < 255) × (places ≡ byte net 5) × (transitions ≡ byte net 6)
 
 abbrev μ-loop : tie.MeasureT-loop
@@ -45,12 +45,11 @@ loop-less : tie.Need-loop-less Inv-loop μ-loop
 loop-less c = search needs
 
 loop-again : tie.Need-loop-again Inv-loop μ-loop
-loop-again c = 
+loop-again c =
     let at = c .before .before .before in
     let e = at .before .before .before .before .before .before in
     let d = c .before .lfd in
-    let most : c .if1 .longest ≡ max (d .result) (at .loop .longest) = ⊎-elim (λ w. omega arith) (λ w. omega arith) (c .if1 .came) in
-    (
+    let most : c .if1 .longest ≡ max (d .result) (at .loop .longest) = ⊎-elim (λ w. omega arith) (λ w. omega arith) (c .if1 .came) in (
       omega arith,
       longest-turn (netOf (e .args .net .now) .lfd) (at .loop .t) (at .loop .longest) (c .if1 .longest) (d .result) (at .loop .inv .1) (d .ensures .0) most,
       omega arith,
@@ -65,7 +64,7 @@ new-requires : tie.Need-new-requires Inv-loop μ-loop
 new-requires c κs = search needs
 
 returns : tie.Need-returns Inv-loop μ-loop
-returns c = 
+returns c =
     let at = c .before .before in
     let e = at .before .before .before .before .before .before in
     shape-found (e .args .net .now) _ _ _ (at .loop .longest) (at .loop .t) (c .new .ensures) (at .loop .inv .3) (at .loop .inv .4) (at .loop .inv .1) (omega arith)

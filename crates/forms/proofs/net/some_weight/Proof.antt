@@ -1,7 +1,7 @@
 -- `net::some_weight` meets its contract. The loop keeps that the weights passed are all 0.
 -- Assumes nothing.
 use mathlib.Core.Path.{_≡_}
-use mathlib.Core.Bool.{Bool, true, not}
+use mathlib.Core.Bool.{Bool, true}
 use mathlib.Core.List.{List}
 use Prim.Native.Nat.{ℕ, _+_, _-_, _≤_}
 use native.Mathlib.Omega.{arith}
@@ -35,7 +35,7 @@ shared-slice-read-if1 c = search needs
 
 returns : tie.Need-returns Inv-loop μ-loop
 unfolding some-weight?
-returns c = 
+returns c =
     let at = c .before .before .before in
     let a = at .before .args in
     rw (all-stop (zero? (a .net .now) (a .from)) (a .n) (at .loop .p) (omega arith) (ne-eqb _ _ (c .if1 .taken)))
@@ -47,14 +47,14 @@ loop-less : tie.Need-loop-less Inv-loop μ-loop
 loop-less c = search needs
 
 loop-again : tie.Need-loop-again Inv-loop μ-loop
-loop-again c = 
+loop-again c =
     let at = c .before .before .before in
     let a = at .before .args in
     (omega arith, all-turn (zero? (a .net .now) (a .from)) (at .loop .p) (eq-eqb _ _ (c .if1 .left)) (at .loop .inv .1))
 
 returns-2 : tie.Need-returns-2 Inv-loop μ-loop
 unfolding some-weight?
-returns-2 c = 
+returns-2 c =
     let at = c .before in
     let a = at .before .args in
     rw (all-end (zero? (a .net .now) (a .from)) (a .n) (at .loop .p) (omega arith) (omega arith) (at .loop .inv .1))

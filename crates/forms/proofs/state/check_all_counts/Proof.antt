@@ -1,7 +1,7 @@
 -- `state::check_all_counts` meets its contract. The loop keeps that the transitions that are left give the answer of all.
 -- Assumes nothing.
-use mathlib.Core.Path.{_≡_, ap, _∙_}
-use Prim.Native.Nat.{ℕ, _-_, _≤_}
+use mathlib.Core.Path.{ap, _∙_}
+use Prim.Native.Nat.{_-_, _≤_}
 use native.Mathlib.Omega.{arith}
 use Rattle.forms.specs.Form.{inTurn}
 use Rattle.forms.specs.Stored.{netOf}
@@ -22,7 +22,7 @@ loop-holds : tie.Need-loop-holds Inv-loop μ-loop
 loop-holds c = let e = c .before .before in (omega arith, left-begin (checkCounts (netOf (e .args .net .now)) (e .args .state .now)) (e .args .shape .transitions))
 
 check-counts-requires : tie.Need-check-counts-requires Inv-loop μ-loop
-check-counts-requires c κs = 
+check-counts-requires c κs =
     let e = c .before .before .before .before in
     (e .pre .0, (e .pre .1, omega (arith, transitions-same (e .args .net .now) (e .args .shape) (e .pre .0))))
 
@@ -33,7 +33,7 @@ enum-told-2 : tie.Need-enum-told-2 Inv-loop μ-loop
 enum-told-2 c = search needs
 
 returns : tie.Need-returns Inv-loop μ-loop
-returns c = 
+returns c =
     let k = c .before .before in
     let at = k .before .before in
     let e = at .before .before .before in
@@ -48,15 +48,17 @@ loop-less : tie.Need-loop-less Inv-loop μ-loop
 loop-less c = search needs
 
 loop-again : tie.Need-loop-again Inv-loop μ-loop
-loop-again c = 
+loop-again c =
     let k = c .before .before in
     let at = k .before .before in
-    let e = at .before .before .before in
-    (omega arith, left-turn (checkCounts (netOf (e .args .net .now)) (e .args .state .now)) (e .args .shape .transitions) (at .loop .t) (at .loop .inv .1) (omega arith)
-    (k .check-counts .result) (k .check-counts .ensures) (c .enum-told .given .1))
+    let e = at .before .before .before in (
+      omega arith,
+      left-turn (checkCounts (netOf (e .args .net .now)) (e .args .state .now)) (e .args .shape .transitions) (at .loop .t) (at .loop .inv .1) (omega arith)
+          (k .check-counts .result) (k .check-counts .ensures) (c .enum-told .given .1),
+    )
 
 returns-2 : tie.Need-returns-2 Inv-loop μ-loop
-returns-2 c = 
+returns-2 c =
     let at = c .before in
     let e = at .before .before .before in
     left-end (checkCounts (netOf (e .args .net .now)) (e .args .state .now)) (e .args .shape .transitions) (at .loop .t) (at .loop .inv .1) (omega arith)

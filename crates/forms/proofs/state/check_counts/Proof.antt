@@ -31,11 +31,10 @@ column-requires : tie.Need-column-requires
 column-requires c κs = search needs
 
 count-at-requires : tie.Need-count-at-requires
-count-at-requires c κs = 
+count-at-requires c κs =
     let e = c .before .before .before .before in
     let net = e .args .net .now in
-    let f = e .pre .0 in
-    (
+    let f = e .pre .0 in (
       omega (arith, places-small net (e .args .shape) f),
       omega (arith, width-small net (e .args .shape) f),
       omega (arith, transitions-small net (e .args .shape) f, transitions-same net (e .args .shape) f, e .pre .1 .1),
@@ -43,12 +42,12 @@ count-at-requires c κs =
     )
 
 sub-blank : tie.Need-sub-blank
-sub-blank c = 
+sub-blank c =
     let e = c .before .before .before .before .before .before in
     omega (arith, lfd-below (e .args .net .now) (e .args .shape) (e .pre .0) (e .args .t) (e .pre .1 .1), c .before .before .before .lfd .ensures .0)
 
 blank-requires : tie.Need-blank-requires
-blank-requires c κs = 
+blank-requires c κs =
     let e = c .before .before .before .before .before .before in
     counts-inside (e .args .net .now) (e .args .shape) (e .pre .0) (e .args .state .now) (e .args .t) _ _ (c .before .before .column .result) (e .pre .1 .0) (e .pre .1 .1)
     (omega (arith, lfd-below (e .args .net .now) (e .args .shape) (e .pre .0) (e .args .t) (e .pre .1 .1), c .before .before .before .lfd .ensures .0))

@@ -2,7 +2,6 @@
 -- Assumes nothing.
 use mathlib.Core.Path.{_≡_, _∙_}
 use native.Mathlib.Omega.{arith}
-use mathlib.Core.Bool.{true}
 use Rattle.model.specs.Net.{width}
 use Rattle.model.proofs.Alls.{passed, failed, holds}
 use Rattle.forms.specs.Stored.{netOf}
@@ -16,7 +15,7 @@ headed : (k : tie.After-has-head) → k .has-head .result
 headed k = let e = k .before .before .before in k .has-head .ensures ∙ head-same (e .args .net .now) (e .args .shape) (e .pre) (e .args .state .now)
 
 has-head-requires : tie.Need-has-head-requires
-has-head-requires c κs = 
+has-head-requires c κs =
     let e = c .before .before in
     let net = e .args .net .now in
     (omega (arith, places-small net (e .args .shape) (e .pre)), omega (arith, transitions-small net (e .args .shape) (e .pre)), omega (arith, width-small net (e .args .shape) (e .pre)))
@@ -26,7 +25,7 @@ unfolding checkState
 returns c = rw (failed (headed (c .before)) (c .if1 .taken))
 
 check-all-counts-requires : tie.Need-check-all-counts-requires
-check-all-counts-requires c κs = 
+check-all-counts-requires c κs =
     let e = c .before .before .before .before in
     let N = netOf (e .args .net .now) in
     (e .pre, holds (has-head-tells (N .places) (N .transitions) (width N) (e .args .state .now)) (passed (headed (c .before)) (c .if1 .left)))

@@ -55,7 +55,7 @@ returns-6 : tie.Need-returns-6
 returns-6 c = let a = c .before .before .before .before .before .before .before .before .before .before .before .before .before .before .before .before .before .before .before .args in no-head (a .shape) (a .state .now) (λ f. c .if6 .taken (c .before .before .wide3 .ensures .0 ∙ f .1 .1 .1 .1 .1 .0))
 
 returns-7 : tie.Need-returns-7
-returns-7 c = 
+returns-7 c =
     let e = c .before .before .before .before .before .before .before .before .before .before .before .before .before .before .before .before .before .before .before in
     let b = e .args .state .now in
     let long = c .before .before .before .before .before .before .before .before .before .before .before .before .before .before .state-length in

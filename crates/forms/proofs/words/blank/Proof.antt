@@ -34,13 +34,13 @@ loop-less : tie.Need-loop-less Inv-loop μ-loop
 loop-less c = search needs
 
 loop-again : tie.Need-loop-again Inv-loop μ-loop
-loop-again c = 
+loop-again c =
     let at = c .before .before in
     let a = at .before .args in
     (omega arith, omega arith, zeros-turn (a .s .now) (a .at) (at .loop .i) (at .loop .seen) (at .loop .inv .2))
 
 returns : tie.Need-returns Inv-loop μ-loop
-returns c = 
+returns c =
     let at = c .before in
     let a = at .before .args in
     let e : at .loop .i ≡ 2 * a .n = omega arith in

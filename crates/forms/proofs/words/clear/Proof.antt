@@ -1,7 +1,7 @@
 -- `words::clear` meets its contract. The loop keeps that the first i words are written.
 -- Assumes nothing.
 use mathlib.Core.Path.{_≡_, refl}
-use Prim.Native.Nat.{ℕ, _-_, _≤_}
+use Prim.Native.Nat.{_-_, _≤_}
 use native.Mathlib.Omega.{arith}
 use lib.ListN.{length}
 use Rattle.forms.specs.Word.{putWords}
@@ -35,7 +35,7 @@ loop-less : tie.Need-loop-less Inv-loop μ-loop
 loop-less c = search needs
 
 loop-again : tie.Need-loop-again Inv-loop μ-loop
-loop-again c = 
+loop-again c =
     let at = c .before .before .before .before .before in
     let a = at .before .before .args in
     (omega arith, omega arith, put-turn (a .at) (λ _. 0) (a .s .now) (at .loop .i) (at .loop .s) _ 0 (at .loop .inv .2) (c .before .before .write16 .ensures) refl)
@@ -44,7 +44,7 @@ same-length : tie.Need-same-length Inv-loop μ-loop
 same-length c = search needs
 
 returns : tie.Need-returns Inv-loop μ-loop
-returns c = 
+returns c =
     let at = c .before in
     let a = at .before .before .args in
     put-end (a .at) (λ _. 0) (a .s .now) (at .loop .i) (a .n) (at .loop .s) (at .loop .inv .2) (omega arith)

@@ -1,0 +1,71 @@
+-- What acceptance gives: the checks put bytes in their frame, the initial state is in it, and a lawful state written over one that is
+-- stays in it.
+-- Assumes nothing.
+use mathlib.Core.Path.{_≡_, ap, _∙_}
+use mathlib.Core.List.{List}
+use Prim.Native.Nat.{ℕ, _≤_}
+use native.Mathlib.Omega.{arith}
+use lib.ListN.{length}
+use borrow.Author.Tests.{le-leb}
+use Rattle.model.specs.declared.net.Net.{Net as Shape}
+use Rattle.model.specs.Net.{Net, State, Lawful, width, initialState}
+use Rattle.model.proofs.Lawful.{initial-lawful}
+use Rattle.forms.specs.declared.form.Form.the-variants as form
+use Rattle.forms.specs.Word.{Bytes, word}
+use Rattle.forms.specs.Places.{imageLength}
+use Rattle.forms.specs.Stored.{netOf}
+use Rattle.forms.specs.Written.{written, afterInitial}
+use Rattle.forms.specs.Nets.{checkNet}
+use Rattle.forms.specs.States.{IsState, checkState}
+use Rattle.forms.specs.Frame.{HasShape, FramedNet, Framed, Began}
+use Rattle.forms.proofs.Nets.{net-exact, net-accepted}
+use Rattle.forms.proofs.States.{state-exact}
+use Rattle.forms.proofs.Stored.{count-place}
+use Rattle.forms.proofs.Written.{length-written, written-head, word-counts}
+use Rattle.forms.proofs.Image.{head-word, image-accepted, image-reads}
+use Rattle.forms.proofs.ListedState.{image-listed}
+
+-- the checks give the frame
+pub net-frame : (net : List ℕ) (shape : Shape) → checkNet net ≡ form.Good → HasShape (netOf net) shape → FramedNet net shape
+net-frame net shape e h = record { is-net = net-exact net .0 e; has-shape = h }
+
+pub frame : (net : List ℕ) (shape : Shape) (state : List ℕ) → FramedNet net shape → checkState (netOf net) state ≡ form.Good → Framed net shape state
+frame net shape state f e = record { net-framed = f; is-state = state-exact (netOf net) state .0 e }
+
+-- a lawful state that is written over a state is one
+pub written-accepted : (N : Net) (S : State) (b : List ℕ) → IsState N b → Lawful N S → IsState N (written N S b)
+written-accepted N S b i s =
+    let (eight, (version, (long, (P, (T, (D, room)))))) = i .framed in
+    let kept = written-head N S b in
+    record {
+      framed = (
+        rw length-written eight,
+        (
+          kept 0 (omega arith) ∙ version,
+          (
+            head-word (written N S b) b kept ∙ long,
+            (kept 5 (omega arith) ∙ P, (kept 6 (omega arith) ∙ T, (kept 7 (omega arith) ∙ D, rw length-written room))),
+          ),
+        ),
+      );
+      none-past = λ t l j k h.
+          ap (word (written N S b)) (count-place (N .places) (width N) t j) ∙ word-counts N S b room t j l k ∙ s .none-past-lfd t j l k h;
+    }
+
+pub written-framed : (net : List ℕ) (shape : Shape) (b : List ℕ) (S : State) → Framed net shape b → Lawful (netOf net) S
+    → Framed net shape (written (netOf net) S b)
+written-framed net shape b S f s = record { net-framed = f .net-framed; is-state = written-accepted (netOf net) S b (f .is-state) s }
+
+-- THE INITIAL STATE
+
+pub initial-began : (net b : List ℕ) → Bytes net → checkNet net ≡ form.Good → imageLength (netOf net) ≤ length b
+    → Began net b (afterInitial (netOf net) b)
+unfolding afterInitial
+initial-began net b small e room =
+    let N = netOf net in
+    let s = initial-lawful N (net-accepted net small (net-exact net .0 e) .proper) in
+    rw (le-leb (imageLength N) (length b) room) (record {
+      whole = image-listed N (initialState N) b room;
+      accepted = state-exact N _ .1 (image-accepted N (initialState N) b room s);
+      reads = image-reads N (initialState N) b room s;
+    })
