@@ -29,16 +29,16 @@ module _ {f : ℕ → Bool} {A : ℕ → Type 0} (each : (i : ℕ) → Tells (f 
       (λ a. rw (told-true (each n) a) (HowMany.one-more a (how-many-is n)))
       (λ a. rw (told-false (each n) a) (HowMany.no-more a (how-many-is n)))
 
-  -- l is the lowest from n on and below m, or 64 where there is none
-  LowestFrom : ℕ → ℕ → ℕ → Type 0
-  LowestFrom n m l =
+  -- l is the lowest from n on and below m, or z where there is none
+  LowestFrom : ℕ → ℕ → ℕ → ℕ → Type 0
+  LowestFrom z n m l =
       ((l < m) × (n ≤ l) × A l × ((i : ℕ) → n ≤ i → i < l → ¬ A i))
-      ⊎ ((l ≡ wordBits) × ((i : ℕ) → n ≤ i → i < m → ¬ A i))
+      ⊎ ((l ≡ z) × ((i : ℕ) → n ≤ i → i < m → ¬ A i))
 
-  lower : (n m l : ℕ) → n < m → LowestFrom (suc n) m l → (b : Bool) → Tells b (A n) → LowestFrom n m (cond b n l)
+  lower : (z n m l : ℕ) → n < m → LowestFrom z (suc n) m l → (b : Bool) → Tells b (A n) → LowestFrom z n m (cond b n l)
   unfolding LowestFrom
-  lower n m l h so-far true t = inl (h, omega arith, t .sound tt, λ i a b. absurd (omega arith))
-  lower n m l h so-far false t = elim so-far [
+  lower z n m l h so-far true t = inl (h, omega arith, t .sound tt, λ i a b. absurd (omega arith))
+  lower z n m l h so-far false t = elim so-far [
     | inl (b, o, here, none) ↦ inl (b, omega arith, here, λ i p q. from-n i p (λ r. none i r q))
     | inr (e, none) ↦ inr (e, λ i p q. from-n i p (λ r. none i r q))
   ]
@@ -47,14 +47,14 @@ module _ {f : ℕ → Bool} {A : ℕ → Type 0} (each : (i : ℕ) → Tells (f 
       from-n : (i : ℕ) → n ≤ i → (suc n ≤ i → ¬ A i) → ¬ A i
       from-n i p above = at-or-below n i p (λ e. rw (← e) (t .complete)) above
 
-  descend : (n m l : ℕ) → n ≤ m → LowestFrom n m l → LowestFrom 0 m (lowest l n f)
+  descend : (z n m l : ℕ) → n ≤ m → LowestFrom z n m l → LowestFrom z 0 m (lowest l n f)
   unfolding lowest
-  descend zero m l h so-far = so-far
-  descend (suc n) m l h so-far = descend n m (cond (f n) n l) (omega arith) (lower n m l (omega arith) so-far (f n) (each n))
+  descend z zero m l h so-far = so-far
+  descend z (suc n) m l h so-far = descend z n m (cond (f n) n l) (omega arith) (lower z n m l (omega arith) so-far (f n) (each n))
 
-  pub lowest-is : (m : ℕ) → Lowest A m (lowest wordBits m f)
+  pub lowest-is : (z m : ℕ) → Lowest A m z (lowest z m f)
   unfolding LowestFrom
-  lowest-is m = elim (descend m m wordBits (omega arith) (inr (refl, λ i p q. absurd (omega arith)))) [
+  lowest-is z m = elim (descend z m m z (omega arith) (inr (refl, λ i p q. absurd (omega arith)))) [
     | inl (b, o, here, none) ↦ Lowest.found b here (λ i q. none i (omega arith) q)
     | inr (e, none) ↦ rw e (Lowest.empty (λ i q. none i (omega arith) q))
   ]
@@ -67,7 +67,7 @@ how-many-once (HowMany.one-more a s) (HowMany.no-more b t) = absurd (b a)
 how-many-once (HowMany.no-more a s) (HowMany.one-more b t) = absurd (a b)
 how-many-once (HowMany.no-more a s) (HowMany.no-more b t) = how-many-once s t
 
-pub lowest-once : {A : ℕ → Type 0} {n k l : ℕ} → Lowest A n k → Lowest A n l → k ≡ l
+pub lowest-once : {A : ℕ → Type 0} {n z k l : ℕ} → Lowest A n z k → Lowest A n z l → k ≡ l
 lowest-once {k} {l} (Lowest.found p a none) (Lowest.found q b none′) =
     below-or-past k l (λ h. absurd (none′ k h a)) (λ h. at-or-below l k h sym (λ g. absurd (none l g b)))
 lowest-once {k} (Lowest.found p a none) (Lowest.empty none′) = absurd (none′ k p a)
@@ -155,8 +155,8 @@ module _ (N : Net) (S : State) where
     ends-are = owes-end-tells;
     start-count-is = how-many-is owes-start-tells (N .transitions);
     end-count-is = how-many-is owes-end-tells (N .transitions);
-    lowest-start-is = lowest-is owes-start-tells (N .transitions);
-    lowest-end-is = lowest-is owes-end-tells (N .transitions);
+    lowest-start-is = lowest-is owes-start-tells wordBits (N .transitions);
+    lowest-end-is = lowest-is owes-end-tells wordBits (N .transitions);
     standing-is = standing-stands;
   }
 

@@ -39,10 +39,10 @@ pub data HowMany (A : ℕ → Type 0) : ℕ → ℕ → Type 0 where
 abbrev pub wordBits : ℕ
 wordBits = 64
 
--- l is the lowest of those, or 64 where there is none
-pub data Lowest (A : ℕ → Type 0) (n : ℕ) : ℕ → Type 0 where
-  found : {l : ℕ} → l < n → A l → ((i : ℕ) → i < l → ¬ A i) → Lowest A n l
-  empty : ((i : ℕ) → i < n → ¬ A i) → Lowest A n wordBits
+-- l is the lowest of those, or `none` where there is none
+pub data Lowest (A : ℕ → Type 0) (n none : ℕ) : ℕ → Type 0 where
+  found : {l : ℕ} → l < n → A l → ((i : ℕ) → i < l → ¬ A i) → Lowest A n none l
+  empty : ((i : ℕ) → i < n → ¬ A i) → Lowest A n none none
 
 -- THE STANDING
 
@@ -76,8 +76,8 @@ pub record Reports (N : Net) (S : State) (r : Report) : Type 0 where
   pub ends-are : (t : ℕ) → Tells (r .ends t) (OwesEnd N S t)
   pub start-count-is : HowMany (OwesStart N S) (N .transitions) (r .start-count)
   pub end-count-is : HowMany (OwesEnd N S) (N .transitions) (r .end-count)
-  pub lowest-start-is : Lowest (OwesStart N S) (N .transitions) (r .lowest-start)
-  pub lowest-end-is : Lowest (OwesEnd N S) (N .transitions) (r .lowest-end)
+  pub lowest-start-is : Lowest (OwesStart N S) (N .transitions) wordBits (r .lowest-start)
+  pub lowest-end-is : Lowest (OwesEnd N S) (N .transitions) wordBits (r .lowest-end)
   pub standing-is : Stands N S (r .standing)
 
 unfoldable pub owed : Net → State → Report
