@@ -14,5 +14,6 @@ pub mod ListedNet
 pub mod Pieces
 pub mod ListedState
 pub mod Frames
+pub mod Inside
 pub mod Cases
 pub mod Determined
