@@ -25,22 +25,40 @@ use Rattle.forms.proofs.words.write32.Reads as write32
 use Rattle.forms.proofs.words.write32.Kinds as write32-kinds
 use Rattle.forms.proofs.words.clear.Reads as clear
 use Rattle.forms.proofs.words.clear.Kinds as clear-kinds
+use Rattle.forms.proofs.begins.begins.Reads as begins
+use Rattle.forms.proofs.begins.begins.Kinds as begins-kinds
+use Rattle.forms.proofs.places.initial_at.Reads as initial-at
+use Rattle.forms.proofs.places.initial_at.Kinds as initial-at-kinds
+use Rattle.forms.proofs.places.lfd_at.Reads as lfd-at
+use Rattle.forms.proofs.places.lfd_at.Kinds as lfd-at-kinds
+use Rattle.forms.proofs.places.inputs_at.Reads as inputs-at
+use Rattle.forms.proofs.places.inputs_at.Kinds as inputs-at-kinds
+use Rattle.forms.proofs.places.outputs_at.Reads as outputs-at
+use Rattle.forms.proofs.places.outputs_at.Kinds as outputs-at-kinds
+use Rattle.forms.proofs.places.mark_at.Reads as mark-at
+use Rattle.forms.proofs.places.mark_at.Kinds as mark-at-kinds
+use Rattle.forms.proofs.places.clock_at.Reads as clock-at
+use Rattle.forms.proofs.places.clock_at.Kinds as clock-at-kinds
+use Rattle.forms.proofs.places.cells.Reads as cells
+use Rattle.forms.proofs.places.cells.Kinds as cells-kinds
 use Rattle.forms.proofs.places.row_at.Reads as row-at
 use Rattle.forms.proofs.places.row_at.Kinds as row-at-kinds
 use Rattle.forms.proofs.places.count_at.Reads as count-at
 use Rattle.forms.proofs.places.count_at.Kinds as count-at-kinds
 use Rattle.forms.proofs.places.state_length.Reads as state-length
 use Rattle.forms.proofs.places.state_length.Kinds as state-length-kinds
-use Rattle.forms.proofs.form.Fault.number.Reads as fault-number
-use Rattle.forms.proofs.form.Fault.number.Kinds as fault-number-kinds
-use Rattle.forms.proofs.form.Fault.index.Reads as fault-index
-use Rattle.forms.proofs.form.Fault.index.Kinds as fault-index-kinds
-use Rattle.forms.proofs.form.Form.number.Reads as form-number
-use Rattle.forms.proofs.form.Form.number.Kinds as form-number-kinds
-use Rattle.forms.proofs.form.Form.index.Reads as form-index
-use Rattle.forms.proofs.form.Form.index.Kinds as form-index-kinds
+use Rattle.forms.proofs.fault.Fault.number.Reads as fault-number
+use Rattle.forms.proofs.fault.Fault.number.Kinds as fault-number-kinds
+use Rattle.forms.proofs.fault.Fault.index.Reads as fault-index
+use Rattle.forms.proofs.fault.Fault.index.Kinds as fault-index-kinds
+use Rattle.forms.proofs.fault.Checked.number.Reads as checked-number
+use Rattle.forms.proofs.fault.Checked.number.Kinds as checked-number-kinds
+use Rattle.forms.proofs.fault.Checked.index.Reads as checked-index
+use Rattle.forms.proofs.fault.Checked.index.Kinds as checked-index-kinds
 use Rattle.forms.proofs.net.check_net.Reads as check-net
 use Rattle.forms.proofs.net.check_net.Kinds as check-net-kinds
+use Rattle.forms.proofs.net.sfd.Reads as sfd
+use Rattle.forms.proofs.net.sfd.Kinds as sfd-kinds
 use Rattle.forms.proofs.net.lfd.Reads as lfd
 use Rattle.forms.proofs.net.lfd.Kinds as lfd-kinds
 use Rattle.forms.proofs.net.shape_of.Reads as shape-of
@@ -84,6 +102,30 @@ pub clear-leaves : (κs : Lfts 1) (args : Dens κs clear-kinds.ps) (x y : resT c
     (s s′ : AtExit (endedOf 1 clear-kinds.ps clear-kinds.r) κs) → clear.Learnt κs args x s → clear.Learnt κs args y s′ → now (s .0) ≡ now (s′ .0)
 clear-leaves κs args x y s s′ p q = p ∙ sym q
 
+pub begins-determined : Determined 1 begins-kinds.ps begins-kinds.r begins.Learnt
+begins-determined κs args x y s s′ p q = p ∙ sym q
+
+pub initial-at-determined : Determined 0 initial-at-kinds.ps initial-at-kinds.r initial-at.Learnt
+initial-at-determined κs args x y s s′ p q = p ∙ sym q
+
+pub lfd-at-determined : Determined 0 lfd-at-kinds.ps lfd-at-kinds.r lfd-at.Learnt
+lfd-at-determined κs args x y s s′ p q = p ∙ sym q
+
+pub inputs-at-determined : Determined 0 inputs-at-kinds.ps inputs-at-kinds.r inputs-at.Learnt
+inputs-at-determined κs args x y s s′ p q = p ∙ sym q
+
+pub outputs-at-determined : Determined 0 outputs-at-kinds.ps outputs-at-kinds.r outputs-at.Learnt
+outputs-at-determined κs args x y s s′ p q = p ∙ sym q
+
+pub mark-at-determined : Determined 0 mark-at-kinds.ps mark-at-kinds.r mark-at.Learnt
+mark-at-determined κs args x y s s′ p q = p ∙ sym q
+
+pub clock-at-determined : Determined 0 clock-at-kinds.ps clock-at-kinds.r clock-at.Learnt
+clock-at-determined κs args x y s s′ p q = p ∙ sym q
+
+pub cells-determined : Determined 0 cells-kinds.ps cells-kinds.r cells.Learnt
+cells-determined κs args x y s s′ p q = p .0 ∙ sym (q .0)
+
 pub row-at-determined : Determined 0 row-at-kinds.ps row-at-kinds.r row-at.Learnt
 row-at-determined κs args x y s s′ p q = p .0 ∙ sym (q .0)
 
@@ -99,14 +141,17 @@ fault-number-determined κs args x y s s′ p q = p ∙ sym q
 pub fault-index-determined : Determined 0 fault-index-kinds.ps fault-index-kinds.r fault-index.Learnt
 fault-index-determined κs args x y s s′ p q = p ∙ sym q
 
-pub form-number-determined : Determined 0 form-number-kinds.ps form-number-kinds.r form-number.Learnt
-form-number-determined κs args x y s s′ p q = p ∙ sym q
+pub checked-number-determined : Determined 0 checked-number-kinds.ps checked-number-kinds.r checked-number.Learnt
+checked-number-determined κs args x y s s′ p q = p ∙ sym q
 
-pub form-index-determined : Determined 0 form-index-kinds.ps form-index-kinds.r form-index.Learnt
-form-index-determined κs args x y s s′ p q = p ∙ sym q
+pub checked-index-determined : Determined 0 checked-index-kinds.ps checked-index-kinds.r checked-index.Learnt
+checked-index-determined κs args x y s s′ p q = p ∙ sym q
 
 pub check-net-determined : Determined 1 check-net-kinds.ps check-net-kinds.r check-net.Learnt
 check-net-determined κs args x y s s′ p q = p ∙ sym q
+
+pub sfd-determined : Determined 1 sfd-kinds.ps sfd-kinds.r sfd.Learnt
+sfd-determined κs args x y s s′ p q = p ∙ sym q
 
 pub lfd-determined : Determined 1 lfd-kinds.ps lfd-kinds.r lfd.Learnt
 lfd-determined κs args x y s s′ p q = p .0 ∙ sym (q .0)

@@ -2,6 +2,7 @@
 -- And the image of the initial state, as the code writes it.
 -- Assumes nothing.
 use mathlib.Core.Path.{_≡_, refl, sym, ap, _∙_}
+use mathlib.Core.Logic.{_↔_}
 use mathlib.Core.Bool.{true, false}
 use mathlib.Core.List.{List}
 use Prim.Native.Nat.{ℕ, _+_, _*_, _/_, _%_, _≤_, _<_}
@@ -13,18 +14,20 @@ use lib.Seq.{getD-set-same, getD-set-other}
 use borrow.Author.Tests.{le-leb, lt-leb}
 use Rattle.model.specs.declared.net.Net.{Net as Shape}
 use Rattle.model.specs.Net.{Net, State, Lawful, Initial, width, tokens, count, initialState}
+use Rattle.model.proofs.Tests.{leb-tells}
 use Rattle.model.proofs.Shape.{initial-exact}
-use Rattle.forms.specs.declared.form.Fault.the-variants as fault
-use Rattle.forms.specs.declared.form.Form.the-variants as form
+use Rattle.forms.specs.declared.fault.Fault.the-variants as fault
+use Rattle.forms.specs.declared.fault.Checked.the-variants as checked
 use Rattle.forms.specs.Word.{byte, word, word32, setWord, setWord32, putWords}
 use Rattle.forms.specs.Places.{initialAt, stateLength, imageLength}
 use Rattle.forms.specs.Stored.{netOf, stateOf}
-use Rattle.forms.specs.Written.{written, headed, image, afterInitial}
-use Rattle.forms.specs.States.{IsState, checkRoom}
+use Rattle.forms.specs.Written.{written, headed, image, checkRoom, afterInitial}
+use Rattle.forms.specs.States.{HasHead, IsState}
 use Rattle.forms.specs.Frame.{HasShape}
 use Rattle.forms.proofs.WordLaws.{length-setWord, length-setWord32, byte-other, word-same, word-before, putWords-cong}
 use Rattle.forms.proofs.Runs.{putRows-flat}
 use Rattle.forms.proofs.Stored.{count-place}
+use Rattle.forms.proofs.Turns.{never, unless-good, fails, fault-by}
 use Rattle.forms.proofs.Written.{length-written, written-head, written-behind, word-counts, read-written}
 
 -- THE HEAD
@@ -104,53 +107,52 @@ head-word x y same =
 -- THE IMAGE
 
 module _ (N : Net) (S : State) (b : List ℕ) (room : imageLength N ≤ length b) where
-  abbrev head : List ℕ
-  head = headed (N .places) (N .transitions) (width N) b
+  abbrev front : List ℕ
+  front = headed (N .places) (N .transitions) (width N) b
 
   eight : 8 ≤ length b
   unfolding stateLength
   eight = omega arith
 
-  long : imageLength N ≤ length head
+  long : imageLength N ≤ length front
   long = rw (length-headed (N .places) (N .transitions) (width N) b eight) room
 
   pub length-image : length (image N S b) ≡ length b
   unfolding image
-  length-image = length-written N S head ∙ length-headed (N .places) (N .transitions) (width N) b eight
+  length-image = length-written N S front ∙ length-headed (N .places) (N .transitions) (width N) b eight
 
   -- the bytes behind the image stay
   pub image-behind : (i : ℕ) → imageLength N ≤ i → byte (image N S b) i ≡ byte b i
   unfolding image stateLength
-  image-behind i h = written-behind N S head i h ∙ head-behind (N .places) (N .transitions) (width N) b eight i (omega arith)
+  image-behind i h = written-behind N S front i h ∙ head-behind (N .places) (N .transitions) (width N) b eight i (omega arith)
 
   -- it reads as the state
   pub image-reads : Lawful N S → stateOf N (image N S b) ≡ S
   unfolding image
-  image-reads s = read-written N S head long (s .shaped)
+  image-reads s = read-written N S front long (s .shaped)
 
   -- and is accepted as one
   pub image-accepted : Lawful N S → IsState N (image N S b)
   unfolding image
-  image-accepted s = record {
-    framed = (
-      rw length-written (rw (length-headed (N .places) (N .transitions) (width N) b eight) eight),
-      (
-        written-head N S head 0 (omega arith) ∙ head-version (N .places) (N .transitions) (width N) b eight,
-        (
-          head-word (written N S head) head (written-head N S head) ∙ head-length (N .places) (N .transitions) (width N) b eight,
-          (
-            written-head N S head 5 (omega arith) ∙ head-places (N .places) (N .transitions) (width N) b eight,
-            (
-              written-head N S head 6 (omega arith) ∙ head-transitions (N .places) (N .transitions) (width N) b eight,
-              (written-head N S head 7 (omega arith) ∙ head-width (N .places) (N .transitions) (width N) b eight, rw length-written long),
-            ),
-          ),
-        ),
-      ),
-    );
-    none-past = λ t l j k h.
-        ap (word (written N S head)) (count-place (N .places) (width N) t j) ∙ word-counts N S head long t j l k ∙ s .none-past-lfd t j l k h;
-  }
+  image-accepted s =
+      let P = N .places in
+      let T = N .transitions in
+      let D = width N in
+      record {
+        head = record {
+          least = rw length-written (rw (length-headed P T D b eight) eight);
+          begins = record {
+            version-is = written-head N S front 0 (omega arith) ∙ head-version P T D b eight;
+            length-is = head-word (written N S front) front (written-head N S front) ∙ head-length P T D b eight;
+          };
+          places-are = written-head N S front 5 (omega arith) ∙ head-places P T D b eight;
+          transitions-are = written-head N S front 6 (omega arith) ∙ head-transitions P T D b eight;
+          width-is = written-head N S front 7 (omega arith) ∙ head-width P T D b eight;
+          room = rw length-written long;
+        };
+        none-past = λ t l j k h.
+            ap (word (written N S front)) (count-place P D t j) ∙ word-counts N S front long t j l k ∙ s .none-past-lfd t j l k h;
+      }
 
 -- THE INITIAL STATE, AS THE CODE WRITES IT
 
@@ -190,7 +192,7 @@ module _ (net : List ℕ) (shape : Shape) (h : HasShape (netOf net) shape) (b : 
 
   -- where there is no room, and where there is
   pub no-room : length b < stateLength (shape .places) (shape .transitions) (shape .width)
-      → (form.Bad fault.NoRoom ≡ checkRoom (netOf net) b) × (b ≡ afterInitial (netOf net) b)
+      → (checked.Bad fault.NoRoom ≡ checkRoom (netOf net) b) × (b ≡ afterInitial (netOf net) b)
   unfolding checkRoom afterInitial
   no-room l =
       let short : leb (imageLength (netOf net)) (length b) ≡ false = lt-leb (imageLength (netOf net)) (length b) (rw length-same at l) in
@@ -198,8 +200,29 @@ module _ (net : List ℕ) (shape : Shape) (h : HasShape (netOf net) shape) (b : 
 
   pub room : stateLength (shape .places) (shape .transitions) (shape .width) ≤ length b → (after : List ℕ)
       → after ≡ written-so (shape .places) (shape .transitions) (shape .width)
-      → (form.Good ≡ checkRoom (netOf net) b) × (after ≡ afterInitial (netOf net) b)
+      → (checked.Good ≡ checkRoom (netOf net) b) × (after ≡ afterInitial (netOf net) b)
   unfolding checkRoom afterInitial
   room l after e =
       let long : leb (imageLength (netOf net)) (length b) ≡ true = le-leb (imageLength (netOf net)) (length b) (rw length-same at l) in
       (rw long, rw long (e ∙ initial-is))
+
+-- 7 is told exactly where the buffer is too short, and then no byte is written
+pub room-exact : (N : Net) (b : List ℕ) → (checkRoom N b ≡ checked.Good) ↔ (imageLength N ≤ length b)
+unfolding checkRoom
+room-exact N b =
+    let passes = unless-good {B = Unit {0}} fault.NoRoom (leb-tells (imageLength N) (length b)) ((λ _. tt), λ _. refl) in
+    ((λ e. passes .0 e .0), λ h. passes .1 (h, tt))
+
+pub room-faulty : (N : Net) (b : List ℕ) → (checkRoom N b ≡ checked.Bad fault.NoRoom) ↔ (length b < imageLength N)
+unfolding checkRoom
+room-faulty N b = (
+  fault-by fault.NoRoom _ (leb-tells (imageLength N) (length b)) (λ f _. short (imageLength N) (length b) f) (λ _. never),
+  λ h. fails fault.NoRoom _ (leb-tells (imageLength N) (length b)) (λ l. omega arith),
+)
+  where
+    short : (m n : ℕ) → ¬ (m ≤ n) → n < m
+    short m n f = omega arith
+
+pub no-room-kept : (N : Net) (b : List ℕ) → length b < imageLength N → afterInitial N b ≡ b
+unfolding afterInitial
+no-room-kept N b h = rw (lt-leb (imageLength N) (length b) h)

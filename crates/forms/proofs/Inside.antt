@@ -11,7 +11,6 @@ use Rattle.model.specs.declared.age.Column.{Column}
 use Rattle.model.specs.declared.net.Net.{Net as Shape}
 use Rattle.model.specs.Age.{columnOf}
 use Rattle.model.specs.Net.{width, count, tokens}
-use Rattle.model.proofs.Shape.{lfd-fits}
 use Rattle.forms.specs.Word.{byte, word}
 use Rattle.forms.specs.Places.{rowAt, rowLength, markAt, countAt, stateLength}
 use Rattle.forms.specs.Stored.{netOf, stored}
@@ -28,7 +27,7 @@ module _ (net : List ℕ) (shape : Shape) (b : List ℕ) (f : Framed net shape b
       let h = f .net-framed .has-shape in
       let cells : shape .transitions * shape .width ≡ netOf net .transitions * width (netOf net) =
       ap (λ (x : ℕ). x * shape .width) (h .transitions-are) ∙ ap (λ (x : ℕ). netOf net .transitions * x) (h .width-is) in
-      omega (arith, f .is-state .framed .1 .1 .1 .1 .1 .1, h .places-are)
+      omega (arith, f .is-state .head .room, h .places-are)
 
   pub marks-inside : 8 + 2 * shape .places ≤ length b
   marks-inside = omega (arith, clock-inside)

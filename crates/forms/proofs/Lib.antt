@@ -11,9 +11,11 @@ pub mod States
 pub mod Logs
 pub mod Image
 pub mod ListedNet
+pub mod ListedLog
 pub mod Pieces
 pub mod ListedState
 pub mod Frames
 pub mod Inside
 pub mod Cases
+pub mod Edges
 pub mod Determined

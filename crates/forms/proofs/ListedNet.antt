@@ -1,5 +1,4 @@
--- The places of the stored forms are those of document 01's lists: what stands in the bytes of a net or a state is read as that net and
--- that state, and the bytes are accepted.
+-- The places of a net are those of document 01's list: the bytes of a net are read as that net, and accepted.
 -- Assumes nothing.
 use mathlib.Core.Path.{_≡_, refl, sym, ap, _∙_}
 use mathlib.Core.List.{List, [], _∷_, _++_}
@@ -12,10 +11,11 @@ use Rattle.model.specs.Tab.{tab}
 use Rattle.model.specs.Net.{Net, Accepted}
 use Rattle.model.proofs.Tab.{length-tab, getD-tab}
 use Rattle.forms.specs.Word.{byte, word, word32}
+use Rattle.forms.specs.Begins.{version}
 use Rattle.forms.specs.Places.{rowAt, rowLength, netLength}
 use Rattle.forms.specs.Stored.{netOf}
 use Rattle.forms.specs.Nets.{IsNet, RowGood}
-use Rattle.forms.specs.Listed.{Agree, two, four, join, rowBytes, netBytes}
+use Rattle.forms.specs.Listed.{SameNet, two, four, join, rowBytes, netBytes}
 
 -- PARTS ONE BEHIND THE OTHER
 
@@ -67,7 +67,7 @@ module _ (N : Net) where
   T = N .transitions
 
   abbrev net-head : List ℕ
-  net-head = 1 ∷ four (netLength P T) ++ (P ∷ T ∷ [])
+  net-head = version ∷ four (netLength P T) ++ (P ∷ T ∷ [])
 
   abbrev markings : List ℕ
   markings = join P (λ p. two (N .initialMarking p))
@@ -160,7 +160,7 @@ module _ (N : Net) where
       ∙ behind P (tab P (N .takes t)) (tab P (N .gives t)) p (length-tab P (N .takes t)) ∙ getD-tab P (N .gives t) p 0 l)
 
   -- the bytes of a net are read as that net
-  pub net-listed : Agree N (netOf (netBytes N))
+  pub net-listed : SameNet N (netOf (netBytes N))
   unfolding netOf
   net-listed = record {
     places = places-read;
@@ -179,7 +179,10 @@ module _ (N : Net) where
   -- and are accepted, where the net is one that document 01 accepts
   pub net-listed-good : Accepted N → IsNet (netBytes N)
   net-listed-good a = record {
-    framed = (rw length-netBytes seven, (version-read, length-read ∙ sym length-netBytes));
+    head = record {
+      least = rw length-netBytes seven;
+      begins = record { version-is = version-read; length-is = length-read ∙ sym length-netBytes };
+    };
     sized = rw (places-read, transitions-read) (a .sized);
     long = length-netBytes ∙ rw (places-read, transitions-read);
     rows = λ t h. good t (rw transitions-read at h);

@@ -8,6 +8,7 @@ use lib.ListN.{length, getD, take, drop, replicate, length-append, length-replic
 use lib.Seq.{drop-cons, drop-drop, drop-append-add, length-take-le}
 use Rattle.model.specs.Net.{Net, State, Lawful, width, tokens, count}
 use Rattle.forms.specs.Word.{Bytes, byte, word, word32, setWord, setWord32, putWords}
+use Rattle.forms.specs.Begins.{version}
 use Rattle.forms.specs.Places.{stateLength, imageLength}
 use Rattle.forms.specs.Stored.{stateOf}
 use Rattle.forms.specs.Written.{written, headed, image}
@@ -21,7 +22,7 @@ use Rattle.forms.proofs.Image.{length-headed, length-image, image-accep
 -- THE HEAD
 
 abbrev head : ℕ → ℕ → ℕ → List ℕ
-head P T D = 1 ∷ four (stateLength P T D) ++ (P ∷ T ∷ D ∷ [])
+head P T D = version ∷ four (stateLength P T D) ++ (P ∷ T ∷ D ∷ [])
 
 -- a list of at least 8 elements begins with 8
 eight-first : (b : List ℕ) → 8 ≤ length b
@@ -54,13 +55,15 @@ behind-eight H b L m h e =
 -- a head that is as it must be
 head-kept : (P T D : ℕ) (b : List ℕ) → HasHead P T D b → Bytes b → take 8 b ≡ head P T D
 unfolding word32 word
-head-kept P T D b (eight, (version, (long, (p, (t, (d, room)))))) small =
+head-kept P T D b h small =
+    let long = h .begins .length-is in
     let L = stateLength P T D in
     let a₁ : byte b 1 ≡ L / 65536 / 256 = omega (arith, small 1, small 2, small 3, small 4) in
     let a₂ : byte b 2 ≡ L / 65536 % 256 = omega (arith, small 1, small 2, small 3, small 4) in
     let a₃ : byte b 3 ≡ L % 65536 / 256 = omega (arith, small 1, small 2, small 3, small 4) in
     let a₄ : byte b 4 ≡ L % 65536 % 256 = omega (arith, small 1, small 2, small 3, small 4) in
-    ap (take 8) (eight-first b eight) ∙ (λ i. version i ∷ a₁ i ∷ a₂ i ∷ a₃ i ∷ a₄ i ∷ p i ∷ t i ∷ d i ∷ [])
+    ap (take 8) (eight-first b (h .least))
+    ∙ (λ i. h .begins .version-is i ∷ a₁ i ∷ a₂ i ∷ a₃ i ∷ a₄ i ∷ h .places-are i ∷ h .transitions-are i ∷ h .width-is i ∷ [])
 
 -- THE IMAGE
 
@@ -125,8 +128,8 @@ module _ (N : Net) (S : State) where
   unfolding stateBytes
   written-listed b i small =
       let rest = drop (imageLength N) b in
-      written-is b (i .framed .1 .1 .1 .1 .1 .1)
-      ∙ ap (λ (l : List ℕ). l ++ (marks ++ (rows ++ rest))) (head-kept (N .places) (N .transitions) (width N) b (i .framed) small)
+      written-is b (i .head .room)
+      ∙ ap (λ (l : List ℕ). l ++ (marks ++ (rows ++ rest))) (head-kept (N .places) (N .transitions) (width N) b (i .head) small)
       ∙ ap (λ (l : List ℕ). head (N .places) (N .transitions) (width N) ++ l) (sym (append-assoc marks rows rest))
       ∙ sym (append-assoc (head (N .places) (N .transitions) (width N)) (marks ++ rows) rest)
 

@@ -11,19 +11,20 @@ use lib.Dec.{eqb}
 use lib.ListN.{length}
 use Rattle.model.specs.declared.net.Net.{Net as Shape}
 use Rattle.model.specs.Tab.{Tells, largest}
-use Rattle.model.specs.Limits.{sized?, IsInterval, interval?, shapeOf}
+use Rattle.model.specs.Limits.{placeLimit, transitionLimit, durationLimit, sized?, IsInterval, interval?, shapeOf}
 use Rattle.model.specs.Net.{Net, HasInput, HasOutput, Accepted, width}
 use Rattle.model.proofs.Tab.{both-tell, all-tells}
-use Rattle.model.proofs.Tests.{leb-tells, eqb-tells, not-tells, sized-tells, interval-tells, some-fails}
-use Rattle.forms.specs.declared.form.Fault.{Fault}
-use Rattle.forms.specs.declared.form.Fault.the-variants as fault
-use Rattle.forms.specs.declared.form.Form.{Form}
-use Rattle.forms.specs.declared.form.Form.the-variants as form
-use Rattle.forms.specs.Form.{inTurn}
+use Rattle.model.proofs.Tests.{tells-as, leb-tells, eqb-tells, not-tells, sized-tells, interval-tells, some-fails}
+use Rattle.forms.specs.declared.fault.Fault.{Fault}
+use Rattle.forms.specs.declared.fault.Fault.the-variants as fault
+use Rattle.forms.specs.declared.fault.Checked.{Checked}
+use Rattle.forms.specs.declared.fault.Checked.the-variants as checked
+use Rattle.forms.specs.Checked.{inTurn}
 use Rattle.forms.specs.Word.{Bytes, byte, word32}
+use Rattle.forms.specs.Begins.{version, Begins, begins?}
 use Rattle.forms.specs.Places.{initialAt, rowAt, rowLength, netLength}
 use Rattle.forms.specs.Stored.{netOf}
-use Rattle.forms.specs.Nets.{NetFramed, net-framed?, NetLong, RowGood, RowFaulty, IsNet, NetFaulty, some-weight?, checkRow, checkNet}
+use Rattle.forms.specs.Nets.{NetHead, net-head?, LengthRight, RowGood, RowFaulty, IsNet, NetFaulty, some-weight?, checkRow, checkNet}
 use Rattle.forms.specs.Frame.{HasShape}
 use Rattle.forms.proofs.WordLaws.{word-fits}
 use Rattle.forms.proofs.Rows.{row-within}
@@ -31,12 +32,18 @@ use Rattle.forms.proofs.Turns.{never, unless-good, past, fails, fault-b
 
 -- WHAT THE TESTS TELL
 
-pub net-framed-tells : (b : List ℕ) → Tells (net-framed? b) (NetFramed b)
-unfolding net-framed?
-net-framed-tells b =
-    both-tell (leb-tells 7 (length b)) (both-tell (eqb-tells (byte b 0) 1) (eqb-tells (word32 b 1) (length b)))
+pub begins-tells : (b : List ℕ) (long : ℕ) → Tells (begins? b long) (Begins b long)
+unfolding begins?
+begins-tells b long =
+    tells-as (λ (v, l). record { version-is = v; length-is = l }) (λ h. (h .version-is, h .length-is))
+    (both-tell (eqb-tells (byte b 0) version) (eqb-tells (word32 b 1) long))
 
-pub net-long-tells : (b : List ℕ) → Tells (eqb (length b) (netLength (byte b 5) (byte b 6))) (NetLong b)
+pub net-head-tells : (b : List ℕ) → Tells (net-head? b) (NetHead b)
+unfolding net-head?
+net-head-tells b =
+    tells-as (λ (l, e). record { least = l; begins = e }) (λ h. (h .least, h .begins)) (both-tell (leb-tells 7 (length b)) (begins-tells b (length b)))
+
+pub net-long-tells : (b : List ℕ) → Tells (eqb (length b) (netLength (byte b 5) (byte b 6))) (LengthRight b)
 net-long-tells b = eqb-tells (length b) (netLength (byte b 5) (byte b 6))
 
 -- some weight is above 0
@@ -56,20 +63,20 @@ some-weight-tells n f =
 -- THE ANSWERS OF `checkNet`
 
 module _ (b : List ℕ) where
-  pub net-no-frame : net-framed? b ≡ false → form.Bad fault.NetFrame ≡ checkNet b
+  pub net-no-frame : net-head? b ≡ false → checked.Bad fault.NetFrame ≡ checkNet b
   unfolding checkNet
   net-no-frame f = rw f
 
-  pub net-no-size : net-framed? b ≡ true → sized? (byte b 5) (byte b 6) ≡ false → form.Bad fault.NetSize ≡ checkNet b
+  pub net-no-size : net-head? b ≡ true → sized? (byte b 5) (byte b 6) ≡ false → checked.Bad fault.NetSize ≡ checkNet b
   unfolding checkNet
   net-no-size f s = rw (f, s)
 
-  pub net-no-length : net-framed? b ≡ true → sized? (byte b 5) (byte b 6) ≡ true
-      → eqb (length b) (netLength (byte b 5) (byte b 6)) ≡ false → form.Bad fault.NetLength ≡ checkNet b
+  pub net-no-length : net-head? b ≡ true → sized? (byte b 5) (byte b 6) ≡ true
+      → eqb (length b) (netLength (byte b 5) (byte b 6)) ≡ false → checked.Bad fault.NetLength ≡ checkNet b
   unfolding checkNet
   net-no-length f s l = rw (f, s, l)
 
-  pub net-rows : net-framed? b ≡ true → sized? (byte b 5) (byte b 6) ≡ true
+  pub net-rows : net-head? b ≡ true → sized? (byte b 5) (byte b 6) ≡ true
       → eqb (length b) (netLength (byte b 5) (byte b 6)) ≡ true → inTurn (checkRow (netOf b)) 0 (byte b 6) ≡ checkNet b
   unfolding checkNet
   net-rows f s l = rw (f, s, l)
@@ -87,7 +94,7 @@ module _ (N : Net) (t : ℕ) where
   output-is = some-weight-tells (N .places) (N .gives t)
 
   -- none of 4, 5 and 6 is told exactly where the transition is good
-  pub row-exact : (checkRow N t ≡ form.Good) ↔ RowGood N t
+  pub row-exact : (checkRow N t ≡ checked.Good) ↔ RowGood N t
   unfolding checkRow
   row-exact =
       let passes =
@@ -98,7 +105,7 @@ module _ (N : Net) (t : ℕ) where
       )
 
   -- and each is told exactly when
-  pub row-faulty : (why : Fault) → (checkRow N t ≡ form.Bad why) ↔ RowFaulty N t why
+  pub row-faulty : (why : Fault) → (checkRow N t ≡ checked.Bad why) ↔ RowFaulty N t why
   unfolding checkRow
   row-faulty why = (
     fault-by (fault.NoInterval t) _ interval-is (λ f q. rw q (RowFaulty.no-interval f)) (λ i.
@@ -107,7 +114,7 @@ module _ (N : Net) (t : ℕ) where
     told,
   )
     where
-      told : {why : Fault} → RowFaulty N t why → checkRow N t ≡ form.Bad why
+      told : {why : Fault} → RowFaulty N t why → checkRow N t ≡ checked.Bad why
       told (RowFaulty.no-interval f) = fails (fault.NoInterval t) _ interval-is f
       told (RowFaulty.no-input i f) = past (fault.NoInterval t) interval-is i (fails (fault.NoInput t) _ input-is f)
       told (RowFaulty.no-output i p f) =
@@ -116,42 +123,42 @@ module _ (N : Net) (t : ℕ) where
 -- THE NET
 
 module _ (b : List ℕ) where
-  abbrev rows-are : (inTurn (checkRow (netOf b)) 0 (byte b 6) ≡ form.Good)
-      ↔ ((t : ℕ) → t < byte b 6 → checkRow (netOf b) t ≡ form.Good)
+  abbrev rows-are : (inTurn (checkRow (netOf b)) 0 (byte b 6) ≡ checked.Good)
+      ↔ ((t : ℕ) → t < byte b 6 → checkRow (netOf b) t ≡ checked.Good)
   rows-are = turn-good (checkRow (netOf b)) (byte b 6)
 
   -- none of 1 to 6 is told exactly where the bytes are a net
-  pub net-exact : (checkNet b ≡ form.Good) ↔ IsNet b
+  pub net-exact : (checkNet b ≡ checked.Good) ↔ IsNet b
   unfolding checkNet
   net-exact =
       let passes =
-      unless-good fault.NetFrame (net-framed-tells b)
+      unless-good fault.NetFrame (net-head-tells b)
       (unless-good fault.NetSize (sized-tells (byte b 5) (byte b 6)) (unless-good fault.NetLength (net-long-tells b) rows-are)) in (
         (λ e. let (f, (s, (l, rows))) = passes .0 e in
-            record { framed = f; sized = s; long = l; rows = λ t h. row-exact (netOf b) t .0 (rows t h) }),
-        λ n. passes .1 (n .framed, (n .sized, (n .long, λ t h. row-exact (netOf b) t .1 (n .rows t h)))),
+            record { head = f; sized = s; long = l; rows = λ t h. row-exact (netOf b) t .0 (rows t h) }),
+        λ n. passes .1 (n .head, (n .sized, (n .long, λ t h. row-exact (netOf b) t .1 (n .rows t h)))),
       )
 
-  told-net : {why : Fault} → NetFaulty b why → checkNet b ≡ form.Bad why
+  told-net : {why : Fault} → NetFaulty b why → checkNet b ≡ checked.Bad why
   unfolding checkNet
-  told-net (NetFaulty.frame f) = fails fault.NetFrame _ (net-framed-tells b) f
+  told-net (NetFaulty.frame f) = fails fault.NetFrame _ (net-head-tells b) f
   told-net (NetFaulty.size f s) =
-      past fault.NetFrame (net-framed-tells b) f (fails fault.NetSize _ (sized-tells (byte b 5) (byte b 6)) s)
+      past fault.NetFrame (net-head-tells b) f (fails fault.NetSize _ (sized-tells (byte b 5) (byte b 6)) s)
   told-net (NetFaulty.length-wrong f s l) =
-      past fault.NetFrame (net-framed-tells b) f
+      past fault.NetFrame (net-head-tells b) f
       (past fault.NetSize (sized-tells (byte b 5) (byte b 6)) s (fails fault.NetLength _ (net-long-tells b) l))
   told-net (NetFaulty.row {why} {t} f s l h lower r) =
-      past fault.NetFrame (net-framed-tells b) f
+      past fault.NetFrame (net-head-tells b) f
       (past fault.NetSize (sized-tells (byte b 5) (byte b 6)) s
       (past fault.NetLength (net-long-tells b) l
       (turn-bad (checkRow (netOf b)) (byte b 6) why .1
       (t, h, (λ u k. row-exact (netOf b) u .1 (lower u k)), row-faulty (netOf b) t why .1 r))))
 
   -- and each is told exactly when document 01's table has it
-  pub net-faulty : (why : Fault) → (checkNet b ≡ form.Bad why) ↔ NetFaulty b why
+  pub net-faulty : (why : Fault) → (checkNet b ≡ checked.Bad why) ↔ NetFaulty b why
   unfolding checkNet
   net-faulty why = (
-    fault-by fault.NetFrame _ (net-framed-tells b) (λ a q. rw q (NetFaulty.frame a)) (λ f.
+    fault-by fault.NetFrame _ (net-head-tells b) (λ a q. rw q (NetFaulty.frame a)) (λ f.
         fault-by fault.NetSize _ (sized-tells (byte b 5) (byte b 6)) (λ a q. rw q (NetFaulty.size f a)) (λ s.
         fault-by fault.NetLength _ (net-long-tells b) (λ a q. rw q (NetFaulty.length-wrong f s a)) (λ l e.
         let (t, h, lower, r) = turn-bad (checkRow (netOf b)) (byte b 6) why .0 e in
@@ -176,24 +183,28 @@ module _ (b : List ℕ) where
 -- WHAT A CHECKED NET GIVES THE CODE
 
 module _ (b : List ℕ) (n : IsNet b) where
-  pub net-head : 7 ≤ length b
-  net-head = n .framed .0
+  pub net-least : 7 ≤ length b
+  net-least = n .head .least
 
-  pub few-transitions : byte b 6 ≤ 64
+  pub few-transitions : byte b 6 ≤ transitionLimit
   few-transitions = n .sized .1 .1
 
-  pub few-places : byte b 5 ≤ 64
+  pub few-places : byte b 5 ≤ placeLimit
   few-places = n .sized .0 .1
+
+  pub some-transition : 0 < netOf b .transitions
+  unfolding netOf
+  some-transition = n .sized .1 .0
 
   -- the row of a transition stands within
   pub row-inside : (t : ℕ) → t < byte b 6 → rowAt (byte b 5) t + rowLength (byte b 5) ≤ length b
   row-inside t h = omega (arith, n .long, row-within (byte b 5) t (byte b 6) h)
 
-  pub marking-inside : 7 + 2 * byte b 5 ≤ length b
+  pub marking-inside : initialAt (byte b 5) ≤ length b
   unfolding rowAt
   marking-inside = omega (arith, n .long)
 
-  pub lfd-short : (t : ℕ) → t < byte b 6 → netOf b .lfd t ≤ 63
+  pub lfd-short : (t : ℕ) → t < byte b 6 → netOf b .lfd t ≤ durationLimit
   lfd-short t h = n .rows t h .interval .1
 
 -- a turn of the loop that looks for the longest duration

@@ -71,14 +71,6 @@ setWord-comm s i v j w h =
     ∙ ap (λ (l : List ℕ). set l (i + 1) (v % 256)) (set-comm (set s j (w / 256)) i (j + 1) (v / 256) (w % 256) (λ e. omega arith))
 
 -- two lists of bytes with one word in common there have its two bytes in common
-pub high-of : (s r : List ℕ) (i : ℕ) → Bytes s → Bytes r → word s i ≡ word r i → getD s i 0 ≡ getD r i 0
-unfolding word
-high-of s r i bs br e = omega (arith, bs i, bs (i + 1), br i, br (i + 1))
-
-pub low-of : (s r : List ℕ) (i : ℕ) → Bytes s → Bytes r → word s i ≡ word r i → getD s (i + 1) 0 ≡ getD r (i + 1) 0
-unfolding word
-low-of s r i bs br e = omega (arith, bs i, bs (i + 1), br i, br (i + 1))
-
 -- ---- a run of words
 
 module _ (base : ℕ) (f : ℕ → ℕ) (s : List ℕ) where
@@ -146,14 +138,6 @@ putWords-cong base f g s (suc n) h =
 -- ---- rows
 
 module _ (base d : ℕ) (g : ℕ → ℕ → ℕ) (s : List ℕ) where
-  pub putRows-zero : putRows base d 0 g s ≡ s
-  unfolding putRows
-  putRows-zero = refl
-
-  pub putRows-step : (n : ℕ) → putRows base d (n + 1) g s ≡ putWords (base + 2 * (n * d)) d (g n) (putRows base d n g s)
-  unfolding putRows
-  putRows-step n = rw add-one
-
   pub length-putRows : (n : ℕ) → length (putRows base d n g s) ≡ length s
   unfolding putRows
   length-putRows zero = refl
@@ -173,10 +157,6 @@ module _ (base d : ℕ) (g : ℕ → ℕ → ℕ) (s : List ℕ) where
   pub word-putRows-before : (n i : ℕ) → i + 2 ≤ base → word (putRows base d n g s) i ≡ word s i
   unfolding word
   word-putRows-before n i h = omega (arith, putRows-before n i (omega arith), putRows-before n (i + 1) (omega arith))
-
-  pub word-putRows-behind : (n i : ℕ) → base + 2 * (n * d) ≤ i → word (putRows base d n g s) i ≡ word s i
-  unfolding word
-  word-putRows-behind n i h = omega (arith, putRows-behind n i h, putRows-behind n (i + 1) (omega arith))
 
   -- the word at place j of row t
   pub word-putRows : (n t j : ℕ) → base + 2 * (n * d) ≤ length s → t < n → j < d → word (putRows base d n g s) (base + 2 * (t * d + j)) ≡ g t j

@@ -3,14 +3,13 @@
 use mathlib.Core.Path.{_≡_}
 use mathlib.Core.List.{List, [], _∷_, _++_}
 use Prim.Native.Nat.{ℕ, _*_}
-use lib.ListN.{length, drop, replicate}
+use lib.ListN.{length, replicate}
 use Rattle.model.specs.Net.{Net, initialState}
 use Rattle.model.specs.Cases.{childrensRow, log}
-use Rattle.forms.specs.declared.form.Fault.the-variants as fault
-use Rattle.forms.specs.declared.form.Form.the-variants as form
-use Rattle.forms.specs.Stored.{eventsIn}
-use Rattle.forms.specs.Listed.{four, netBytes, stateBytes}
-use Rattle.forms.specs.Places.{logLength}
+use Rattle.forms.specs.declared.fault.Fault.the-variants as fault
+use Rattle.forms.specs.declared.fault.Checked.the-variants as checked
+use Rattle.forms.specs.Stored.{logEvents}
+use Rattle.forms.specs.Listed.{netBytes, stateBytes, logBytes}
 use Rattle.forms.specs.Nets.{checkNet}
 use Rattle.forms.specs.States.{checkState}
 use Rattle.forms.specs.Logs.{checkLog}
@@ -32,14 +31,14 @@ rowLog = 0x01 ∷ 0x00 ∷ 0x00 ∷ 0x00 ∷ 0x0F ∷ 0x01 ∷ 0x00 ∷ 0x00 ∷
 
 pub record DocumentBytes : Type 0 where
   pub net : rowNet ≡ netBytes childrensRow
-  pub net-good : checkNet rowNet ≡ form.Good
+  pub net-good : checkNet rowNet ≡ checked.Good
   pub state : rowState ≡ stateBytes childrensRow (initialState childrensRow)
-  pub log-good : checkLog rowLog ≡ form.Good
-  pub events : eventsIn (drop 5 rowLog) ≡ log
+  pub log-good : checkLog rowLog ≡ checked.Good
+  pub events : logEvents rowLog ≡ log
   -- lengths 0 and 6 as a net; a log of 5 bytes
-  pub no-net : checkNet [] ≡ form.Bad fault.NetFrame
-  pub short-net : checkNet (0x01 ∷ 0x00 ∷ 0x00 ∷ 0x00 ∷ 0x06 ∷ 0x01 ∷ []) ≡ form.Bad fault.NetFrame
-  pub empty-log : checkLog (0x01 ∷ 0x00 ∷ 0x00 ∷ 0x00 ∷ 0x05 ∷ []) ≡ form.Good
+  pub no-net : checkNet [] ≡ checked.Bad fault.NetFrame
+  pub short-net : checkNet (0x01 ∷ 0x00 ∷ 0x00 ∷ 0x00 ∷ 0x06 ∷ 0x01 ∷ []) ≡ checked.Bad fault.NetFrame
+  pub empty-log : checkLog (0x01 ∷ 0x00 ∷ 0x00 ∷ 0x00 ∷ 0x05 ∷ []) ≡ checked.Good
 
 -- THE LONGEST
 
@@ -56,14 +55,14 @@ longest = record {
 }
 
 -- n ticks
-unfoldable pub tickLog : ℕ → List ℕ
-tickLog n = (1 ∷ four (logLength n)) ++ replicate (2 * n) 0
+abbrev pub tickLog : ℕ → List ℕ
+tickLog n = logBytes (replicate (2 * n) 0)
 
 pub record LongestAccepted : Type 0 where
   pub net-length : length (netBytes longest) ≡ 8455
-  pub net-good : checkNet (netBytes longest) ≡ form.Good
+  pub net-good : checkNet (netBytes longest) ≡ checked.Good
   pub state-length : length (stateBytes longest (initialState longest)) ≡ 8328
-  pub state-good : checkState longest (stateBytes longest (initialState longest)) ≡ form.Good
+  pub state-good : checkState longest (stateBytes longest (initialState longest)) ≡ checked.Good
   pub log-length : length (tickLog 24000) ≡ 48005
-  pub log-good : checkLog (tickLog 24000) ≡ form.Good
-  pub log-bad : checkLog (tickLog 24001) ≡ form.Bad fault.LogFrame
+  pub log-good : checkLog (tickLog 24000) ≡ checked.Good
+  pub log-bad : checkLog (tickLog 24001) ≡ checked.Bad fault.LogFrame

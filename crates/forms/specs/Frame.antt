@@ -3,14 +3,15 @@
 use mathlib.Core.Path.{_≡_}
 use mathlib.Core.List.{List, _++_}
 use Prim.Native.Nat.{ℕ}
-use lib.ListN.{drop}
+use lib.ListN.{length, drop}
 use Rattle.model.specs.declared.net.Net.{Net as Shape}
-use Rattle.model.specs.Net.{Net, width, initialState}
-use Rattle.forms.specs.declared.form.Form.the-variants as form
-use Rattle.forms.specs.Places.{imageLength}
-use Rattle.forms.specs.Stored.{netOf, stateOf}
+use Rattle.model.specs.Net.{Net, Accepted, IsWidth, Lawful, width, initialState}
+use Rattle.forms.specs.declared.fault.Checked.the-variants as checked
+use Rattle.forms.specs.Places.{imageLength, logLength}
+use Rattle.forms.specs.Stored.{netOf, stateOf, stored, logEvents}
 use Rattle.forms.specs.Listed.{stateBytes}
 use Rattle.forms.specs.Nets.{IsNet}
+use Rattle.forms.specs.Logs.{eventCount, IsLog}
 use Rattle.forms.specs.States.{IsState, checkState}
 
 -- the shape is N's
@@ -29,8 +30,20 @@ pub record Framed (net : List ℕ) (shape : Shape) (state : List ℕ) : Type 0 w
   pub net-framed : FramedNet net shape
   pub is-state : IsState (netOf net) state
 
+-- what a frame gives of the model: a net that document 01 accepts, its width, a lawful state
+pub record Given (net : List ℕ) (shape : Shape) (state : List ℕ) : Type 0 where
+  pub accepted : Accepted (netOf net)
+  pub width-is : IsWidth (netOf net) (shape .width)
+  pub lawful : Lawful (netOf net) (stored net state)
+
+-- a checked log: its events are whole, so many, and fill it
+pub record FramedLog (log : List ℕ) : Type 0 where
+  pub is-log : IsLog log
+  pub count-is : length (logEvents log) ≡ eventCount log
+  pub fills : length log ≡ logLength (eventCount log)
+
 -- b′ is b with the whole image of the net's initial state at its front: it is accepted, and reads as that state
 pub record Began (net : List ℕ) (b b′ : List ℕ) : Type 0 where
   pub whole : b′ ≡ stateBytes (netOf net) (initialState (netOf net)) ++ drop (imageLength (netOf net)) b
-  pub accepted : checkState (netOf net) b′ ≡ form.Good
+  pub accepted : checkState (netOf net) b′ ≡ checked.Good
   pub reads : stateOf (netOf net) b′ ≡ initialState (netOf net)

@@ -1,5 +1,6 @@
-pub mod Form
+pub mod Checked
 pub mod Word
+pub mod Begins
 pub mod Places
 pub mod Stored
 pub mod Listed
@@ -9,3 +10,4 @@ pub mod States
 pub mod Logs
 pub mod Frame
 pub mod Cases
+pub mod Edges

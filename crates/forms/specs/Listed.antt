@@ -2,9 +2,11 @@
 -- Assumes nothing.
 use mathlib.Core.Path.{_≡_}
 use mathlib.Core.List.{List, [], _∷_, _++_}
-use Prim.Native.Nat.{ℕ, zero, suc, _/_, _%_, _<_}
+use Prim.Native.Nat.{ℕ, zero, suc, _+_, _/_, _%_, _<_}
+use lib.ListN.{length}
 use Rattle.model.specs.Tab.{tab}
 use Rattle.model.specs.Net.{Net, State, width, tokens, count}
+use Rattle.forms.specs.Begins.{version}
 use Rattle.forms.specs.Places.{netLength, imageLength}
 
 -- a number in two bytes and in four, big-endian
@@ -26,11 +28,11 @@ rowBytes N t = N .sfd t ∷ N .lfd t ∷ tab (N .places) (N .takes t) ++ tab (N 
 -- version, length, P, T; P initial markings; a row for each transition
 unfoldable pub netBytes : Net → List ℕ
 netBytes N =
-    (1 ∷ four (netLength (N .places) (N .transitions)) ++ (N .places ∷ N .transitions ∷ []))
+    (version ∷ four (netLength (N .places) (N .transitions)) ++ (N .places ∷ N .transitions ∷ []))
     ++ (join (N .places) (λ p. two (N .initialMarking p)) ++ join (N .transitions) (rowBytes N))
 
 -- the two nets are the same, as far as there are places and transitions
-pub record Agree (N M : Net) : Type 0 where
+pub record SameNet (N M : Net) : Type 0 where
   pub places : M .places ≡ N .places
   pub transitions : M .transitions ≡ N .transitions
   pub initialMarking : (p : ℕ) → p < N .places → M .initialMarking p ≡ N .initialMarking p
@@ -42,5 +44,9 @@ pub record Agree (N M : Net) : Type 0 where
 -- version, length, P, T, D; P markings; T rows of D counts
 unfoldable pub stateBytes : Net → State → List ℕ
 stateBytes N S =
-    (1 ∷ four (imageLength N) ++ (N .places ∷ N .transitions ∷ width N ∷ []))
+    (version ∷ four (imageLength N) ++ (N .places ∷ N .transitions ∷ width N ∷ []))
     ++ (join (N .places) (λ p. two (tokens S p)) ++ join (N .transitions) (λ t. join (width N) (λ j. two (count S t j))))
+
+-- version, length; a part with the events
+unfoldable pub logBytes : List ℕ → List ℕ
+logBytes part = (version ∷ four (5 + length part)) ++ part

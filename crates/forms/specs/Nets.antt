@@ -9,22 +9,24 @@ use lib.ListN.{length}
 use Rattle.model.specs.Tab.{all}
 use Rattle.model.specs.Limits.{Sized, sized?, IsInterval, interval?}
 use Rattle.model.specs.Net.{Net, HasInput, HasOutput}
-use Rattle.forms.specs.declared.form.Fault.{Fault}
-use Rattle.forms.specs.declared.form.Fault.the-variants as fault
-use Rattle.forms.specs.declared.form.Form.{Form}
-use Rattle.forms.specs.declared.form.Form.the-variants as form
-use Rattle.forms.specs.Form.{unless, inTurn}
-use Rattle.forms.specs.Word.{byte, word32}
+use Rattle.forms.specs.declared.fault.Fault.{Fault}
+use Rattle.forms.specs.declared.fault.Fault.the-variants as fault
+use Rattle.forms.specs.declared.fault.Checked.{Checked}
+use Rattle.forms.specs.declared.fault.Checked.the-variants as checked
+use Rattle.forms.specs.Checked.{unless, inTurn}
+use Rattle.forms.specs.Word.{byte}
+use Rattle.forms.specs.Begins.{Begins, begins?}
 use Rattle.forms.specs.Places.{netLength}
 use Rattle.forms.specs.Stored.{netOf}
 
 -- at least 7 bytes, version 1, and the length is the slice's
-abbrev pub NetFramed : List ℕ → Type 0
-NetFramed b = (7 ≤ length b) × ((byte b 0 ≡ 1) × (word32 b 1 ≡ length b))
+pub record NetHead (b : List ℕ) : Type 0 where
+  pub least : 7 ≤ length b
+  pub begins : Begins b (length b)
 
 -- the length is the formula's
-abbrev pub NetLong : List ℕ → Type 0
-NetLong b = length b ≡ netLength (byte b 5) (byte b 6)
+abbrev pub LengthRight : List ℕ → Type 0
+LengthRight b = length b ≡ netLength (byte b 5) (byte b 6)
 
 -- none of 4, 5 and 6 is told of transition t
 pub record RowGood (N : Net) (t : ℕ) : Type 0 where
@@ -34,9 +36,9 @@ pub record RowGood (N : Net) (t : ℕ) : Type 0 where
 
 -- none of 1 to 6 is told
 pub record IsNet (b : List ℕ) : Type 0 where
-  pub framed : NetFramed b
+  pub head : NetHead b
   pub sized : Sized (byte b 5) (byte b 6)
-  pub long : NetLong b
+  pub long : LengthRight b
   pub rows : (t : ℕ) → t < byte b 6 → RowGood (netOf b) t
 
 -- 4, 5 and 6
@@ -47,30 +49,30 @@ pub data RowFaulty (N : Net) (t : ℕ) : Fault → Type 0 where
 
 -- 1 to 6, each behind those before it; of the transitions the lowest is told
 pub data NetFaulty (b : List ℕ) : Fault → Type 0 where
-  frame : ¬ NetFramed b → NetFaulty b fault.NetFrame
-  size : NetFramed b → ¬ Sized (byte b 5) (byte b 6) → NetFaulty b fault.NetSize
-  length-wrong : NetFramed b → Sized (byte b 5) (byte b 6) → ¬ NetLong b → NetFaulty b fault.NetLength
-  row : {why : Fault} {t : ℕ} → NetFramed b → Sized (byte b 5) (byte b 6) → NetLong b → t < byte b 6
+  frame : ¬ NetHead b → NetFaulty b fault.NetFrame
+  size : NetHead b → ¬ Sized (byte b 5) (byte b 6) → NetFaulty b fault.NetSize
+  length-wrong : NetHead b → Sized (byte b 5) (byte b 6) → ¬ LengthRight b → NetFaulty b fault.NetLength
+  row : {why : Fault} {t : ℕ} → NetHead b → Sized (byte b 5) (byte b 6) → LengthRight b → t < byte b 6
       → ((u : ℕ) → u < t → RowGood (netOf b) u) → RowFaulty (netOf b) t why → NetFaulty b why
 
 -- THE FUNCTION
 
-unfoldable pub net-framed? : List ℕ → Bool
-net-framed? b = leb 7 (length b) && (eqb (byte b 0) 1 && eqb (word32 b 1) (length b))
+unfoldable pub net-head? : List ℕ → Bool
+net-head? b = leb 7 (length b) && begins? b (length b)
 
 -- some of the weights f 0 .. f (n - 1) is above 0
 unfoldable pub some-weight? : ℕ → (ℕ → ℕ) → Bool
 some-weight? n f = not (all n (λ p. eqb (f p) 0))
 
-unfoldable pub checkRow : Net → ℕ → Form
+unfoldable pub checkRow : Net → ℕ → Checked
 checkRow N t =
     unless (interval? (N .sfd t) (N .lfd t)) (fault.NoInterval t)
     (unless (some-weight? (N .places) (N .takes t)) (fault.NoInput t)
-    (unless (some-weight? (N .places) (N .gives t)) (fault.NoOutput t) form.Good))
+    (unless (some-weight? (N .places) (N .gives t)) (fault.NoOutput t) checked.Good))
 
-unfoldable pub checkNet : List ℕ → Form
+unfoldable pub checkNet : List ℕ → Checked
 checkNet b =
-    unless (net-framed? b) fault.NetFrame
+    unless (net-head? b) fault.NetFrame
     (unless (sized? (byte b 5) (byte b 6)) fault.NetSize
     (unless (eqb (length b) (netLength (byte b 5) (byte b 6))) fault.NetLength
     (inTurn (checkRow (netOf b)) 0 (byte b 6))))

@@ -1,6 +1,7 @@
 // The check of a state's bytes, numbers 8 and 9.
-use crate::form::Fault;
-use crate::form::Form;
+use crate::begins;
+use crate::fault::Checked;
+use crate::fault::Fault;
 use crate::net;
 use crate::places;
 use crate::words;
@@ -9,9 +10,9 @@ use model::net::Net;
 ghost use mathlib.Core.Path.{_≡_};
 ghost use Prim.Native.Nat.{_<_, _≤_};
 ghost use Rattle.forms.specs.Word.{byte};
-ghost use Rattle.forms.specs.Form.{inTurn};
+ghost use Rattle.forms.specs.Checked.{inTurn};
 ghost use Rattle.forms.specs.Stored.{netOf};
-ghost use Rattle.forms.specs.States.{StateFramed, has-head?, checkCounts, checkState};
+ghost use Rattle.forms.specs.States.{StateHead, has-head?, checkCounts, checkState};
 ghost use Rattle.forms.specs.Frame.{FramedNet};
 
 // Version 1, P, T and D the net's, the length the formula's, and the buffer at least as long.
@@ -22,11 +23,8 @@ fn has_head(shape: Net, state: &[u8]) -> bool
     if state.len() < 8 {
         return false;
     }
-    if state[0] != 1 {
-        return false;
-    }
     let length = places::state_length(shape);
-    if words::read32(state, 1) != length {
+    if !begins::begins(state, length) {
         return false;
     }
     if words::wide(state[5]) != shape.places {
@@ -42,44 +40,44 @@ fn has_head(shape: Net, state: &[u8]) -> bool
 }
 
 // Transition t: no count stands at an age above its lfd.
-fn check_counts(net: &[u8], shape: Net, state: &[u8], t: usize) -> Form
+fn check_counts(net: &[u8], shape: Net, state: &[u8], t: usize) -> Checked
     requires { ⌜ FramedNet (now net) shape ⌝ }
-    requires { ⌜ StateFramed (netOf (now net)) (now state) × (t < byte (now net) 6) ⌝ }
+    requires { ⌜ StateHead (netOf (now net)) (now state) × (t < byte (now net) 6) ⌝ }
     ensures { λ r. ⌜ r ≡ checkCounts (netOf (now (net .entry))) (now (state .entry)) t ⌝ }
 {
     let above = net::lfd(net, t) + 1;
     let at = places::count_at(shape, t, Age(above as u8).column());
     if !words::blank(state, at, shape.width - above) {
-        return Form::Bad(Fault::PastLongest(t));
+        return Checked::Bad(Fault::PastLfd(t));
     }
-    Form::Good
+    Checked::Good
 }
 
 // The transitions in turn, from the lowest.
-fn check_all_counts(net: &[u8], shape: Net, state: &[u8]) -> Form
+fn check_all_counts(net: &[u8], shape: Net, state: &[u8]) -> Checked
     requires { ⌜ FramedNet (now net) shape ⌝ }
-    requires { ⌜ StateFramed (netOf (now net)) (now state) ⌝ }
+    requires { ⌜ StateHead (netOf (now net)) (now state) ⌝ }
     ensures { λ r. ⌜ r ≡ inTurn (checkCounts (netOf (now (net .entry))) (now (state .entry))) 0 (netOf (now (net .entry)) .transitions) ⌝ }
 {
     let transitions = shape.transitions;
     let mut t = 0;
     while t < transitions {
         let counts = check_counts(net, shape, state, t);
-        let Form::Good = counts else {
+        let Checked::Good = counts else {
             return counts;
         };
         t += 1;
     }
-    Form::Good
+    Checked::Good
 }
 
 // Checks that a state of the net stands at the front of the buffer.
-pub fn check_state(net: &[u8], shape: Net, state: &[u8]) -> Form
+pub fn check_state(net: &[u8], shape: Net, state: &[u8]) -> Checked
     requires { ⌜ FramedNet (now net) shape ⌝ }
     ensures { λ r. ⌜ r ≡ checkState (netOf (now (net .entry))) (now (state .entry)) ⌝ }
 {
     if !has_head(shape, state) {
-        return Form::Bad(Fault::StateFrame);
+        return Checked::Bad(Fault::StateFrame);
     }
     check_all_counts(net, shape, state)
 }

@@ -4,7 +4,7 @@ ghost use Prim.Native.Nat.{_+_, _*_, _<_, _≤_};
 ghost use lib.ListN.{length};
 ghost use Rattle.forms.specs.Word.{word, word32, blank?, setWord, setWord32, putWords};
 
-// A byte as a number: asks nothing of its caller but the index.
+// A byte as a number, with its bound.
 pub fn wide(x: u8) -> usize
     ensures { λ r. ⌜ (r ≡ x) × (r < 256) ⌝ }
 {

@@ -28,6 +28,10 @@ pub not-tells : {b : Bool} {A : Type 0} → Tells b A → Tells (not b) (¬ A)
 not-tells {b = true} t = record { sound = λ x. absurd x; complete = λ f. f (t .sound tt) }
 not-tells {b = false} t = record { sound = λ _ a. t .complete a; complete = λ _. tt }
 
+-- a test tells what follows both ways from what it tells
+pub tells-as : {b : Bool} {A B : Type 0} → (A → B) → (B → A) → Tells b A → Tells b B
+tells-as f g t = record { sound = λ x. f (t .sound x); complete = λ y. t .complete (g y) }
+
 -- THE LIMITS
 
 pub sized-tells : (P T : ℕ) → Tells (sized? P T) (Sized P T)

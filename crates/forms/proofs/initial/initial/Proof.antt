@@ -4,7 +4,6 @@ use Prim.Native.Nat.{_≤_, _*_, _+_}
 use native.Mathlib.Omega.{arith}
 use lib.ListN.{length}
 use Rattle.forms.specs.Places.{stateLength}
-use Rattle.forms.proofs.Small.{product-small}
 use Rattle.forms.proofs.Nets.{marking-inside}
 use Rattle.forms.proofs.States.{places-small, transitions-small, width-small, places-same}
 use Rattle.forms.proofs.Image.{no-room, room}
@@ -39,32 +38,19 @@ write-marking-requires c κs =
     let e = c .before .before .before .before .before .before .before .before .before in
     let net = e .args .net .now in
     let f = e .pre in
-    (omega (arith, marking-inside net (f .is-net), places-same net (e .args .shape) f), omega (arith, enough (c .before .before .before .before .before)))
+    (omega (arith, places-small net (e .args .shape) f), omega (arith, marking-inside net (f .is-net), places-same net (e .args .shape) f), omega (arith, enough (c .before .before .before .before .before)))
 
-mul-clear : tie.Need-mul-clear
-mul-clear c =
+clock-at-requires : tie.Need-clock-at-requires
+clock-at-requires c κs = let e = c .before .before .before .before .before .before .before .before .before .before .before .before .before in omega (arith, places-small (e .args .net .now) (e .args .shape) (e .pre))
+
+cells-requires : tie.Need-cells-requires
+cells-requires c κs =
     let e = c .before .before .before .before .before .before .before .before .before .before .before .before .before .before in
     let net = e .args .net .now in
-    let f = e .pre in
-    omega (arith, places-small net (e .args .shape) f)
-
-add-clear : tie.Need-add-clear
-add-clear c =
-    let e = c .before .before .before .before .before .before .before .before .before .before .before .before .before .before in
-    let net = e .args .net .now in
-    let f = e .pre in
-    omega (arith, places-small net (e .args .shape) f)
-
-mul-clear-2 : tie.Need-mul-clear-2
-mul-clear-2 c =
-    let e = c .before .before .before .before .before .before .before .before .before .before .before .before .before .before .before in
-    let net = e .args .net .now in
-    let f = e .pre in
-    omega (arith, product-small (e .args .shape .transitions) (e .args .shape .width) (omega (arith, transitions-small net (e .args .shape) f)) (omega (arith, width-small net (e .args .shape) f)))
+    (omega (arith, transitions-small net (e .args .shape) (e .pre)), omega (arith, width-small net (e .args .shape) (e .pre)))
 
 clear-requires : tie.Need-clear-requires
-unfolding stateLength
-clear-requires c κs = omega (arith, enough (c .before .before .before .before .before .before .before .before .before .before .before))
+clear-requires c κs = omega (arith, c .before .clock-at .ensures, c .cells .ensures .0, enough (c .before .before .before .before .before .before .before .before .before .before .before))
 
 same-length : tie.Need-same-length
 same-length c = search needs
@@ -72,7 +58,7 @@ same-length c = search needs
 returns-2 : tie.Need-returns-2
 returns-2 c =
     let e = c .before .before .before .before .before .before .before .before .before .before .before .before .before .before .before .before .before .before in
-    let wrote = rw (c .before .before .before .before .before .before .before .before .write-marking .ensures, c .before .before .before .before .before .before .before .before .before .before .before .before .write-head .ensures) at (c .before .before .clear .ensures) in
+    let wrote = rw (c .before .before .before .before .before .before .before .before .write-marking .ensures, c .before .before .before .before .before .before .before .before .before .before .before .before .write-head .ensures, c .before .before .before .before .clock-at .ensures, c .before .before .before .cells .ensures .0) at (c .before .before .clear .ensures) in
     room (e .args .net .now) (e .args .shape) (e .pre .has-shape) (e .args .state .now) (omega (arith, c .before .before .before .before .before .before .before .before .before .before .before .before .before .before .before .state-length .ensures .0)) _ wrote
 
 pub initial-spec : {M : Type 1} → statement M
@@ -83,9 +69,8 @@ initial-spec =
     returns
     write-head-requires
     write-marking-requires
-    mul-clear
-    add-clear
-    mul-clear-2
+    clock-at-requires
+    cells-requires
     clear-requires
     same-length
     returns-2)

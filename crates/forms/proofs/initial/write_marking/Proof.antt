@@ -20,17 +20,11 @@ abbrev μ-loop : tie.MeasureT-loop
 loop-holds : tie.Need-loop-holds Inv-loop μ-loop
 loop-holds c = let a = c .before .before .args in (omega arith, refl, put-begin 8 (λ p. word (a .net .now) (initialAt p)) (a .state .now))
 
-mul-write16 : tie.Need-mul-write16 Inv-loop μ-loop
-mul-write16 c = search needs
+mark-at-requires : tie.Need-mark-at-requires Inv-loop μ-loop
+mark-at-requires c κs = search needs
 
-add-write16 : tie.Need-add-write16 Inv-loop μ-loop
-add-write16 c = search needs
-
-mul-read16 : tie.Need-mul-read16 Inv-loop μ-loop
-mul-read16 c = search needs
-
-add-read16 : tie.Need-add-read16 Inv-loop μ-loop
-add-read16 c = search needs
+initial-at-requires : tie.Need-initial-at-requires Inv-loop μ-loop
+initial-at-requires c κs = search needs
 
 read16-requires : tie.Need-read16-requires Inv-loop μ-loop
 read16-requires c κs = search needs
@@ -46,12 +40,14 @@ loop-less c = search needs
 
 loop-again : tie.Need-loop-again Inv-loop μ-loop
 loop-again c =
-    let at = c .before .before .before .before .before .before in
-    let a = at .before .before .before .args in (
+    let at = c .before .before .before .before .before .before .before .before in
+    let a = at .before .before .before .args in
+    let wrote = rw (c .before .before .before .before .before .mark-at .ensures) at (c .before .before .write16 .ensures) in
+    let read = rw (c .before .before .before .before .initial-at .ensures) at (c .before .before .before .read16 .ensures .0) in (
       omega arith,
       omega arith,
       put-turn 8 (λ p. word (a .net .now) (initialAt p)) (a .state .now) (at .loop .p) (at .loop .state) _ (c .before .before .before .read16 .result)
-          (at .loop .inv .2) (c .before .before .write16 .ensures) (c .before .before .before .read16 .ensures .0),
+          (at .loop .inv .2) wrote read,
     )
 
 same-length : tie.Need-same-length Inv-loop μ-loop
@@ -70,10 +66,8 @@ write-marking-spec =
     Inv-loop
     μ-loop
     loop-holds
-    mul-write16
-    add-write16
-    mul-read16
-    add-read16
+    mark-at-requires
+    initial-at-requires
     read16-requires
     write16-requires
     add-p

@@ -7,7 +7,7 @@ use native.Mathlib.Omega.{arith}
 use Rattle.model.specs.Tab.{largest}
 use Rattle.forms.specs.Word.{byte}
 use Rattle.forms.specs.Stored.{netOf}
-use Rattle.forms.proofs.Nets.{net-head, longest-turn, shape-found}
+use Rattle.forms.proofs.Nets.{net-least, longest-turn, shape-found}
 use borrow.Author.Needs.{needs}
 use Rattle.forms.proofs.net.shape_of.Statement.{statement}
 use Rattle.forms.proofs.net.shape_of.Tie as tie
@@ -20,13 +20,13 @@ abbrev μ-loop : tie.MeasureT-loop
 μ-loop net places transitions longest₀ t₀ longest t = transitions - t
 
 shared-slice-read-wide : tie.Need-shared-slice-read-wide Inv-loop μ-loop
-shared-slice-read-wide c = let e = c .before .before in omega (arith, net-head (e .args .net .now) (e .pre))
+shared-slice-read-wide c = let e = c .before .before in omega (arith, net-least (e .args .net .now) (e .pre))
 
 wide-requires : tie.Need-wide-requires Inv-loop μ-loop
 wide-requires c κs = search needs
 
 shared-slice-read-wide-2 : tie.Need-shared-slice-read-wide-2 Inv-loop μ-loop
-shared-slice-read-wide-2 c = let e = c .before .before .before .before in let seven = net-head (e .args .net .now) (e .pre) in search needs
+shared-slice-read-wide-2 c = let e = c .before .before .before .before in let seven = net-least (e .args .net .now) (e .pre) in search needs
 
 wide-requires-2 : tie.Need-wide-requires-2 Inv-loop μ-loop
 wide-requires-2 c κs = search needs

@@ -3,7 +3,7 @@
 use mathlib.Core.Path.{ap, _∙_}
 use Prim.Native.Nat.{_-_, _≤_}
 use native.Mathlib.Omega.{arith}
-use Rattle.forms.specs.Form.{inTurn}
+use Rattle.forms.specs.Checked.{inTurn}
 use Rattle.forms.specs.Stored.{netOf}
 use Rattle.forms.specs.States.{checkCounts}
 use Rattle.forms.proofs.Turns.{Left, left-begin, left-turn, left-stop, left-end}

@@ -39,6 +39,7 @@ count-at-requires c κs =
       omega (arith, width-small net (e .args .shape) f),
       omega (arith, transitions-small net (e .args .shape) f, transitions-same net (e .args .shape) f, e .pre .1 .1),
       omega (arith, ap (λ (x : Column). x .0) (c .column .ensures)),
+      omega (arith, ap (λ (x : Column). x .0) (c .column .ensures)),
     )
 
 sub-blank : tie.Need-sub-blank

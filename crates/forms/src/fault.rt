@@ -1,6 +1,6 @@
 // What a check answers, and the numbers and indices of document 01.
 ghost use mathlib.Core.Path.{_≡_};
-ghost use Rattle.forms.specs.Form.{numberOf, indexOf, numberOfFault, indexOfFault};
+ghost use Rattle.forms.specs.Checked.{numberOf, indexOf, numberOfFault, indexOfFault};
 
 // What is wrong with the bytes of a net, a state or a log. A transition is told where one is at fault.
 pub enum Fault {
@@ -16,11 +16,11 @@ pub enum Fault {
     NoOutput(usize),
     // 7: the buffer is shorter than the initial state.
     NoRoom,
-    // 8: a state's version, length, P, T or D.
+    // 8: a state's version, length, P, T or D, or a buffer that is too short for it.
     StateFrame,
     // 9: a count above its transition's lfd.
-    PastLongest(usize),
-    // 10: a log's version or length.
+    PastLfd(usize),
+    // 10: a log's version or length, half an event, or too many events.
     LogFrame,
 }
 
@@ -37,7 +37,7 @@ impl Fault {
             Fault::NoOutput(_) => 6,
             Fault::NoRoom => 7,
             Fault::StateFrame => 8,
-            Fault::PastLongest(_) => 9,
+            Fault::PastLfd(_) => 9,
             Fault::LogFrame => 10,
         }
     }
@@ -49,7 +49,7 @@ impl Fault {
             Fault::NoInterval(t) => t,
             Fault::NoInput(t) => t,
             Fault::NoOutput(t) => t,
-            Fault::PastLongest(t) => t,
+            Fault::PastLfd(t) => t,
             Fault::NetFrame => 0,
             Fault::NetSize => 0,
             Fault::NetLength => 0,
@@ -60,18 +60,19 @@ impl Fault {
     }
 }
 
-pub enum Form {
+// What a check answers.
+pub enum Checked {
     Good,
     Bad(Fault),
 }
 
-impl Form {
+impl Checked {
     pub fn number(self) -> u8
         ensures { λ r. ⌜ r ≡ numberOf self ⌝ }
     {
         match self {
-            Form::Good => 0,
-            Form::Bad(fault) => fault.number(),
+            Checked::Good => 0,
+            Checked::Bad(fault) => fault.number(),
         }
     }
 
@@ -79,8 +80,8 @@ impl Form {
         ensures { λ r. ⌜ r ≡ indexOf self ⌝ }
     {
         match self {
-            Form::Good => 0,
-            Form::Bad(fault) => fault.index(),
+            Checked::Good => 0,
+            Checked::Bad(fault) => fault.index(),
         }
     }
 }
