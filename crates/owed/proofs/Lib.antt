@@ -1,0 +1,3 @@
+pub mod OwedWords
+pub mod Tests
+pub mod Determined

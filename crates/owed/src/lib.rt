@@ -1,0 +1,8 @@
+// What a state owes: the transitions that must start or end, the degree of one, and the tests that a tick asks.
+pub mod bits;
+pub mod counts;
+pub mod degree;
+pub mod marks;
+pub mod report;
+pub mod sets;
+pub mod starts;

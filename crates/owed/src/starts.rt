@@ -1,0 +1,36 @@
+// Which transitions are enabled: each of them owes a start.
+use crate::marks;
+use forms::places;
+use model::net::Net;
+ghost use mathlib.Core.Path.{_≡_};
+ghost use Prim.Native.Nat.{_<_};
+ghost use Rattle.model.specs.Rules.{enabled?, no-start-owed?};
+ghost use Rattle.forms.specs.Word.{byte};
+ghost use Rattle.forms.specs.Stored.{netOf, stored};
+ghost use Rattle.forms.specs.Frame.{Framed};
+
+// Transition t is enabled: no place is short of its input weight.
+pub fn enabled(net: &[u8], shape: Net, state: &[u8], t: usize) -> bool
+    requires { ⌜ Framed (now net) shape (now state) ⌝ }
+    requires { ⌜ t < byte (now net) 6 ⌝ }
+    ensures { λ r. ⌜ r ≡ enabled? (netOf (now (net .entry))) (stored (now (net .entry)) (now (state .entry))) t 1 ⌝ }
+{
+    let from = places::inputs_at(shape.places, t);
+    marks::short_place(net, from, state, shape.places) == shape.places
+}
+
+// No transition is enabled.
+pub fn no_start_owed(net: &[u8], shape: Net, state: &[u8]) -> bool
+    requires { ⌜ Framed (now net) shape (now state) ⌝ }
+    ensures { λ r. ⌜ r ≡ no-start-owed? (netOf (now (net .entry))) (stored (now (net .entry)) (now (state .entry))) ⌝ }
+{
+    let transitions = shape.transitions;
+    let mut t = 0;
+    while t < transitions {
+        if enabled(net, shape, state, t) {
+            return false;
+        }
+        t += 1;
+    }
+    true
+}
