@@ -1,24 +1,23 @@
 -- Document 01's bytes are those of the model's net, state and events; the longest forms are accepted.
 -- Assumes nothing.
-use mathlib.Core.Path.{_≡_, refl, sym, _∙_}
+use mathlib.Core.Path.{_≡_, refl, _∙_}
 use mathlib.Core.List.{List}
-use Prim.Native.Nat.{ℕ, _*_, _/_, _%_}
+use Prim.Native.Nat.{ℕ, _*_}
 use native.Mathlib.Omega.{arith}
-use lib.ListN.{length, replicate, length-replicate}
+use lib.ListN.{replicate, length-replicate}
 use Rattle.model.specs.Tab.{tab, all, largest}
-use Rattle.model.specs.Limits.{Logged}
 use Rattle.model.specs.Net.{Accepted, width, tokens, count, build, initialState}
 use Rattle.model.specs.Cases.{childrensRow}
 use Rattle.model.proofs.Lawful.{initial-lawful}
 use Rattle.forms.specs.declared.fault.Checked.the-variants as checked
-use Rattle.forms.specs.Word.{byte, word, word32}
-use Rattle.forms.specs.Places.{rowAt, netLength, stateLength, imageLength, logLength}
+use Rattle.forms.specs.Word.{word, word32}
+use Rattle.forms.specs.Places.{rowAt, netLength, stateLength, imageLength}
 use Rattle.forms.specs.Checked.{inTurn}
 use Rattle.forms.specs.Stored.{netOf, eventsIn}
-use Rattle.forms.specs.Listed.{four, join, netBytes, stateBytes}
+use Rattle.forms.specs.Listed.{join, netBytes, stateBytes}
 use Rattle.forms.specs.Nets.{net-head?, some-weight?, checkRow, checkNet}
 use Rattle.forms.specs.Begins.{begins?}
-use Rattle.forms.specs.Logs.{is-log?, checkLog, IsLog}
+use Rattle.forms.specs.Logs.{is-log?, checkLog}
 use Rattle.forms.proofs.Nets.{net-exact}
 use Rattle.forms.proofs.States.{state-exact}
 use Rattle.forms.proofs.Logs.{log-exact, log-faulty}

@@ -22,7 +22,7 @@ use Rattle.forms.specs.Word.{byte, word, word32, setWord, setWord32, put
 use Rattle.forms.specs.Places.{initialAt, stateLength, imageLength}
 use Rattle.forms.specs.Stored.{netOf, stateOf}
 use Rattle.forms.specs.Written.{written, headed, image, checkRoom, afterInitial}
-use Rattle.forms.specs.States.{HasHead, IsState}
+use Rattle.forms.specs.States.{IsState}
 use Rattle.forms.specs.Frame.{HasShape}
 use Rattle.forms.proofs.WordLaws.{length-setWord, length-setWord32, byte-other, word-same, word-before, putWords-cong}
 use Rattle.forms.proofs.Runs.{putRows-flat}

@@ -12,6 +12,7 @@ pub mod Logs
 pub mod Image
 pub mod ListedNet
 pub mod ListedLog
+pub mod NetIsListed
 pub mod Pieces
 pub mod ListedState
 pub mod Frames

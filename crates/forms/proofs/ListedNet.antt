@@ -41,10 +41,10 @@ module _ (k : ℕ) where
       rw e (getD-append-add (f 0) rest (i * k + j) 0 ∙ getD-join n (λ m. f (suc m)) (λ m g. each (suc m) (omega arith)) i j (omega arith) l)
 
 -- a byte behind a part that is m bytes long
-behind : (m : ℕ) (xs ys : List ℕ) (n : ℕ) → length xs ≡ m → byte (xs ++ ys) (m + n) ≡ byte ys n
+pub behind : (m : ℕ) (xs ys : List ℕ) (n : ℕ) → length xs ≡ m → byte (xs ++ ys) (m + n) ≡ byte ys n
 behind m xs ys n e = rw (← e) (getD-append-add xs ys n 0)
 
-before : (m : ℕ) (xs ys : List ℕ) (n : ℕ) → length xs ≡ m → n < m → byte (xs ++ ys) n ≡ byte xs n
+pub before : (m : ℕ) (xs ys : List ℕ) (n : ℕ) → length xs ≡ m → n < m → byte (xs ++ ys) n ≡ byte xs n
 before m xs ys n e h = List·getD-append xs ys 0 n (omega arith)
 
 -- a number in two bytes is read again
@@ -66,7 +66,7 @@ module _ (N : Net) where
   abbrev T : ℕ
   T = N .transitions
 
-  abbrev net-head : List ℕ
+  abbrev pub net-head : List ℕ
   net-head = version ∷ four (netLength P T) ++ (P ∷ T ∷ [])
 
   abbrev markings : List ℕ
@@ -92,14 +92,14 @@ module _ (N : Net) where
         length-join (rowLength P) T (rowBytes N) length-row,
       )
 
-  marking-byte : (p j : ℕ) → p < P → j < 2 → byte (netBytes N) (7 + (p * 2 + j)) ≡ byte (two (N .initialMarking p)) j
+  pub marking-byte : (p j : ℕ) → p < P → j < 2 → byte (netBytes N) (7 + (p * 2 + j)) ≡ byte (two (N .initialMarking p)) j
   unfolding netBytes
   marking-byte p j h l =
       behind 7 net-head (markings ++ rows) (p * 2 + j) refl
       ∙ before (2 * P) markings rows (p * 2 + j) length-markings (omega arith)
       ∙ getD-join 2 P (λ k. two (N .initialMarking k)) (λ i g. refl) p j h l
 
-  row-byte : (t j : ℕ) → t < T → j < rowLength P → byte (netBytes N) (rowAt P t + j) ≡ byte (rowBytes N t) j
+  pub row-byte : (t j : ℕ) → t < T → j < rowLength P → byte (netBytes N) (rowAt P t + j) ≡ byte (rowBytes N t) j
   unfolding netBytes rowAt
   row-byte t j h l =
       let e : 7 + 2 * P + t * rowLength P + j ≡ 7 + (2 * P + (t * rowLength P + j)) = omega arith in
@@ -107,6 +107,11 @@ module _ (N : Net) where
       ∙ behind 7 net-head (markings ++ rows) (2 * P + (t * rowLength P + j)) refl
       ∙ behind (2 * P) markings rows (t * rowLength P + j) length-markings
       ∙ getD-join (rowLength P) T (rowBytes N) length-row t j h l
+
+  -- a byte of the head
+  pub head-byte : (i : ℕ) → i < 7 → byte (netBytes N) i ≡ byte net-head i
+  unfolding netBytes
+  head-byte i h = before 7 net-head (markings ++ rows) i refl h
 
   places-read : byte (netBytes N) 5 ≡ P
   unfolding netBytes

@@ -23,8 +23,8 @@ use Rattle.forms.specs.declared.fault.Fault.{Fault}
 use Rattle.forms.specs.declared.fault.Fault.the-variants as fault
 use Rattle.forms.specs.declared.fault.Checked.{Checked}
 use Rattle.forms.specs.declared.fault.Checked.the-variants as checked
-use Rattle.forms.specs.Word.{Bytes, byte, word, word32, blank?}
-use Rattle.forms.specs.Places.{markAt, clockAt, countAt, stateLength, imageLength}
+use Rattle.forms.specs.Word.{Bytes, byte, word, blank?}
+use Rattle.forms.specs.Places.{markAt, clockAt, countAt, stateLength}
 use Rattle.forms.specs.Stored.{netOf, stateOf}
 use Rattle.forms.specs.States.{HasHead, has-head?, StateHead, NonePast, none-past?, IsState, StateFaulty, checkCounts, checkState}
 use Rattle.forms.specs.Frame.{FramedNet}

@@ -2,7 +2,7 @@
 -- children's row net, its initial state and its log, with one byte or two changed.
 -- Assumes nothing.
 use mathlib.Core.Path.{_≡_}
-use mathlib.Core.List.{List, [], _∷_, _++_}
+use mathlib.Core.List.{[], _∷_, _++_}
 use Prim.Native.Nat.{ℕ}
 use lib.ListN.{set, take}
 use Rattle.model.specs.Cases.{childrensRow}

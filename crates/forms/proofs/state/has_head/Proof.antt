@@ -1,7 +1,6 @@
 -- `state::has_head` meets its contract: each return goes by the tests that led there.
 -- Assumes nothing.
 use mathlib.Core.Path.{_≡_, sym, ap, _∙_}
-use mathlib.Core.Bool.{true}
 use native.Mathlib.Omega.{arith}
 use Rattle.model.proofs.Tests.{leb-tells}
 use Rattle.model.proofs.Alls.{passed, failed, holds, lacks, tells-same}

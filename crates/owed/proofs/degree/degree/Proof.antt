@@ -1,12 +1,10 @@
 -- `degree::degree` meets its contract: the least over the input weights of the transition.
 -- Assumes nothing.
-use mathlib.Core.Path.{ap, _∙_}
-use Prim.Native.Nat.{ℕ, _+_}
+use mathlib.Core.Path.{_∙_}
 use native.Mathlib.Omega.{arith}
 use Rattle.forms.proofs.States.{places-small, places-same, transitions-small, transitions-same}
 use Rattle.forms.proofs.Inside.{row-fits, marks-inside}
 use Rattle.owed.proofs.Tests.{degree-is, inputs-right}
-use borrow.Author.Needs.{needs}
 use Rattle.owed.proofs.degree.degree.Statement.{statement}
 use Rattle.owed.proofs.degree.degree.Tie as tie
 

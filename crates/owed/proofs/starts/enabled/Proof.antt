@@ -1,13 +1,12 @@
 -- `starts::enabled` meets its contract: no place is short exactly where the transition is enabled once.
 -- Assumes nothing.
 use mathlib.Core.Path.{ap, _∙_}
-use Prim.Native.Nat.{ℕ, _+_}
+use Prim.Native.Nat.{ℕ}
 use native.Mathlib.Omega.{arith}
 use lib.Dec.{eqb}
 use Rattle.forms.proofs.States.{places-small, places-same, transitions-small, transitions-same}
 use Rattle.forms.proofs.Inside.{row-fits, marks-inside}
 use Rattle.owed.proofs.Tests.{short-none, inputs-right}
-use borrow.Author.Needs.{needs}
 use Rattle.owed.proofs.starts.enabled.Statement.{statement}
 use Rattle.owed.proofs.starts.enabled.Tie as tie
 
