@@ -1,5 +1,5 @@
-// The shape of a net, and the limits of document 01: each is stated here once, and the test below that uses it is its only user.
-// specs/Limits.antt states them for the definitions; the contracts of the tests hold the two together.
+// The shape of a net, and the limits of document 01: each is stated here once. specs/Limits.antt states them for the definitions;
+// the contract of each function that uses one holds the two together.
 ghost use mathlib.Core.Path.{_≡_};
 ghost use Rattle.model.specs.Limits.{shapeOf, sized?, interval?, logged?, held?};
 

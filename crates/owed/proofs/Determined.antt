@@ -25,6 +25,8 @@ use Rattle.owed.proofs.marks.short_place.Reads as short-place
 use Rattle.owed.proofs.marks.short_place.Kinds as short-place-kinds
 use Rattle.owed.proofs.marks.roomy.Reads as roomy
 use Rattle.owed.proofs.marks.roomy.Kinds as roomy-kinds
+use Rattle.owed.proofs.starts.lacking.Reads as lacking
+use Rattle.owed.proofs.starts.lacking.Kinds as lacking-kinds
 use Rattle.owed.proofs.starts.enabled.Reads as enabled
 use Rattle.owed.proofs.starts.enabled.Kinds as enabled-kinds
 use Rattle.owed.proofs.starts.no_start_owed.Reads as no-start-owed
@@ -33,8 +35,6 @@ use Rattle.owed.proofs.sets.starts_owed.Reads as starts-owed
 use Rattle.owed.proofs.sets.starts_owed.Kinds as starts-owed-kinds
 use Rattle.owed.proofs.report.OwedSet.of.Reads as owed-set-of
 use Rattle.owed.proofs.report.OwedSet.of.Kinds as owed-set-of-kinds
-use Rattle.owed.proofs.report.standing.Reads as standing
-use Rattle.owed.proofs.report.standing.Kinds as standing-kinds
 use Rattle.owed.proofs.report.report.Reads as report
 use Rattle.owed.proofs.report.report.Kinds as report-kinds
 
@@ -71,6 +71,9 @@ short-place-determined κs args x y s s′ p q = p ∙ sym q
 pub roomy-determined : Determined 2 roomy-kinds.ps roomy-kinds.r roomy.Learnt
 roomy-determined κs args x y s s′ p q = p ∙ sym q
 
+pub lacking-determined : Determined 2 lacking-kinds.ps lacking-kinds.r lacking.Learnt
+lacking-determined κs args x y s s′ p q = p ∙ sym q
+
 pub enabled-determined : Determined 2 enabled-kinds.ps enabled-kinds.r enabled.Learnt
 enabled-determined κs args x y s s′ p q = p ∙ sym q
 
@@ -82,9 +85,6 @@ starts-owed-determined κs args x y s s′ p q = p ∙ sym q
 
 pub owed-set-of-determined : Determined 0 owed-set-of-kinds.ps owed-set-of-kinds.r owed-set-of.Learnt
 owed-set-of-determined κs args x y s s′ p q = p ∙ sym q
-
-pub standing-determined : Determined 2 standing-kinds.ps standing-kinds.r standing.Learnt
-standing-determined κs args x y s s′ p q = p ∙ sym q
 
 pub report-determined : Determined 2 report-kinds.ps report-kinds.r report.Learnt
 report-determined κs args x y s s′ p q = p ∙ sym q

@@ -12,7 +12,7 @@ use lib.Bits.{bitOr, or-shifted-r}
 use lib.Count.{ones, ones-cat, trailingZeros, under, trailing-of-zero}
 use Rattle.model.specs.Tab.{Tells, oneIf, howMany, lowest}
 use Rattle.model.specs.Owed.{Lowest}
-use Rattle.model.proofs.Tab.{at-or-below}
+use Rattle.model.proofs.Tab.{below-or-past, at-or-below}
 use Rattle.model.proofs.Owed.{lowest-is, lowest-once}
 use Rattle.owed.specs.Bits.{wordOf, bitAt}
 
@@ -78,9 +78,17 @@ module _ (f : ℕ → Bool) where
       let e : n ≡ (n - suc t) + suc t = omega arith in
       sym (field (wordOf n f) 1 t) ∙ rw (one-add, e, word-mod (n - suc t) (suc t)) (high (oneIf (f t)) t (word-lt t))
 
-  -- bit t of the word tells the test of t, for every t below n, and no bit from n on is set
-  pub word-tells : (n t : ℕ) → t < n → bitAt (wordOf n f) t ≡ f t
+  -- bit t of the word tells the test of t, for every t below n
+  word-tells : (n t : ℕ) → t < n → bitAt (wordOf n f) t ≡ f t
   word-tells n t h = rw (word-digit n t h) (eqb-bit (f t))
+
+  -- and no bit from n on is set
+  word-high : (n t : ℕ) → n ≤ t → bitAt (wordOf n f) t ≡ false
+  word-high n t h = rw (div-eq-of-lt (lt-of-lt-of-le (word-lt n) (pow-mono h)))
+
+  -- so where the test passes below n alone, every bit tells it
+  pub word-bits : (n t : ℕ) → (n ≤ t → f t ≡ false) → bitAt (wordOf n f) t ≡ f t
+  word-bits n t past = below-or-past t n (word-tells n t) (λ h. word-high n t h ∙ sym (past h))
 
   pub word-ones : (n : ℕ) → ones (wordOf n f) ≡ howMany n f
   unfolding wordOf howMany ones

@@ -1,13 +1,13 @@
 -- The loops over places and transitions, and the model's tests that they come to.
 -- Assumes nothing.
 use mathlib.Core.Path.{_≡_, refl, sym, ap, _∙_}
-use mathlib.Core.Bool.{Bool, true, false, not}
+use mathlib.Core.Bool.{Bool, true, false, cond, not}
 use mathlib.Core.List.{List}
 use Prim.Native.Nat.{ℕ, zero, suc, _+_, _*_, _/_, _%_, _<_, _≤_, min}
 use native.Mathlib.Nat.{div-lt-iff-lt-mul, div-add-mod', mod-lt, mul-le-mul-right}
 use native.Mathlib.Numerals.{add-one}
 use native.Mathlib.Omega.{arith}
-use lib.Dec.{T, eqb, leb}
+use lib.Dec.{T, eqb, leb, ltb}
 use lib.Count.{ones, trailingZeros}
 use borrow.Author.Tests.{lt-ltb}
 use Rattle.model.specs.declared.net.Net.{Net as Shape}
@@ -28,7 +28,7 @@ use Rattle.forms.specs.Stored.{netOf, stored}
 use Rattle.forms.specs.Frame.{Framed}
 use Rattle.forms.proofs.Stored.{count-at}
 use Rattle.forms.proofs.Inside.{mark-stands, known-model}
-use Rattle.owed.specs.Marks.{short?, shortPlace, roomy?}
+use Rattle.owed.specs.Marks.{short?, shortPlace, lackingPlace, roomy?}
 use Rattle.owed.specs.Bits.{wordOf}
 use Rattle.owed.specs.Reported.{setOf}
 use Rattle.owed.proofs.OwedWords.{word-ones, word-low, word-none, word-zero}
@@ -81,6 +81,30 @@ module _ (f : ℕ → Bool) (n : ℕ) where
       none (Lowest.found h p below) e k g = absurd (omega arith)
       none (Lowest.empty below) e k g = below k g
 
+pub lowest-cong : (f g : ℕ → Bool) (n none : ℕ) → ((i : ℕ) → i < n → f i ≡ g i) → lowest none n f ≡ lowest none n g
+unfolding lowest
+lowest-cong f g zero none h = refl
+lowest-cong f g (suc n) none h = rw (h n (omega arith)) (lowest-cong f g n (cond (g n) n none) (λ i l. h i (omega arith)))
+
+-- THE PLACE THAT LACKS TOKENS
+
+module _ (N : Net) (S : State) (t : ℕ) where
+  -- it is the lowest
+  pub lacking-lowest : Lowest (λ p. tokens S p < N .takes t p) (N .places) (N .places) (lackingPlace N S t)
+  unfolding lackingPlace
+  lacking-lowest = lowest-is (λ p. ltb-tells (tokens S p) (N .takes t p)) (N .places) (N .places)
+
+  -- there is none exactly where t is enabled once
+  pub lacking-none : eqb (lackingPlace N S t) (N .places) ≡ enabled? N S t 1
+  unfolding lackingPlace
+  lacking-none =
+      lowest-all (λ p. ltb (tokens S p) (N .takes t p)) (N .places)
+      ∙ tells-same (all-tells (N .places) (λ p. not-tells (ltb-tells (tokens S p) (N .takes t p)))) (enabled-tells N S t 1)
+      (λ g p l. enough (g p l)) (λ g p l less. omega (arith, g p l))
+    where
+      enough : {m w : ℕ} → ¬ (m < w) → 1 * w ≤ m
+      enough h = omega arith
+
 -- THE MARKING
 
 module _ (net : List ℕ) (shape : Shape) (b : List ℕ) (f : Framed net shape b) (from : ℕ) where
@@ -113,19 +137,14 @@ module _ (net : List ℕ) (shape : Shape) (b : List ℕ) (f : Framed net shape b
         (λ g p l. let h : p < shape .places = omega (arith, places-are) in omega (arith, g p h, mark-stands net shape b f p h, right p))
         (λ g p l. omega (arith, g p (omega (arith, places-are)), mark-stands net shape b f p l, right p))
 
-  -- enabled once is that no place is short of its input weight
-  pub enabled-is : (t : ℕ) → ((p : ℕ) → byte net (from + p) ≡ netOf net .takes t p)
-      → all (shape .places) has ≡ enabled? (netOf net) (stored net b) t 1
-  enabled-is t right =
-      tells-same (all-tells (shape .places) has-tells) (enabled-tells (netOf net) (stored net b) t 1)
-      (λ g p l. let h : p < shape .places = omega (arith, places-are) in omega (arith, g p h, mark-stands net shape b f p h, right p))
-      (λ g p l. omega (arith, g p (omega (arith, places-are)), mark-stands net shape b f p l, right p))
-
-  -- and so `shortPlace` finds none
-  pub short-none : (t : ℕ) → ((p : ℕ) → byte net (from + p) ≡ netOf net .takes t p)
-      → eqb (shortPlace net from b (shape .places)) (shape .places) ≡ enabled? (netOf net) (stored net b) t 1
-  unfolding shortPlace
-  short-none t right = lowest-all (short? net from b) (shape .places) ∙ enabled-is t right
+  -- the place that the bytes show to be short is the one that lacks tokens for a start of t
+  pub lacking-is : (t : ℕ) → ((p : ℕ) → byte net (from + p) ≡ netOf net .takes t p)
+      → shortPlace net from b (shape .places) ≡ lackingPlace (netOf net) (stored net b) t
+  unfolding shortPlace lackingPlace
+  lacking-is t right =
+      let lacks : ℕ → Bool = λ p. ltb (tokens (stored net b) p) (netOf net .takes t p) in
+      lowest-cong (short? net from b) lacks (shape .places) (shape .places) (λ p h. rw (right p, mark-stands net shape b f p h))
+      ∙ ap (λ (n : ℕ). lowest n n lacks) places-are
 
   -- the degree is the least of the shares
   pub degree-is : (t : ℕ) → ((p : ℕ) → byte net (from + p) ≡ netOf net .takes t p)

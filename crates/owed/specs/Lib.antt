@@ -1,3 +1,4 @@
 pub mod Marks
 pub mod Bits
 pub mod Reported
+pub mod Edges

@@ -6,6 +6,7 @@ use Prim.Native.Nat.{ℕ, _+_}
 use lib.Dec.{ltb}
 use Rattle.model.specs.Tab.{all, lowest}
 use Rattle.model.specs.Limits.{held?}
+use Rattle.model.specs.Net.{Net, State, tokens}
 use Rattle.forms.specs.Word.{byte, word}
 use Rattle.forms.specs.Places.{markAt}
 
@@ -17,10 +18,14 @@ short? net from state p = ltb (word state (markAt p)) (byte net (from + p))
 unfoldable pub shortPlace : List ℕ → ℕ → List ℕ → ℕ → ℕ
 shortPlace net from state n = lowest n n (short? net from state)
 
--- place p has room for the weight
-abbrev pub room? : List ℕ → ℕ → List ℕ → ℕ → Bool
-room? net from state p = held? (word state (markAt p) + byte net (from + p))
+-- the lowest place that lacks tokens for a start of t, or P where none does
+unfoldable pub lackingPlace : Net → State → ℕ → ℕ
+lackingPlace N S t = lowest (N .places) (N .places) (λ p. ltb (tokens S p) (N .takes t p))
 
--- each of n places has room
+-- the weight fits into place p
+abbrev pub fits? : List ℕ → ℕ → List ℕ → ℕ → Bool
+fits? net from state p = held? (word state (markAt p) + byte net (from + p))
+
+-- it does into each of n places
 unfoldable pub roomy? : List ℕ → ℕ → List ℕ → ℕ → Bool
-roomy? net from state n = all n (room? net from state)
+roomy? net from state n = all n (fits? net from state)

@@ -12,7 +12,7 @@ ghost use Rattle.forms.specs.Word.{byte};
 ghost use Rattle.forms.specs.Stored.{netOf, stored};
 ghost use Rattle.forms.specs.Frame.{Framed};
 
-// How many firings of transition t have an age.
+// How many firings of transition t are of this age.
 pub fn count(net: &[u8], shape: Net, state: &[u8], t: usize, age: Age) -> usize
     requires { ⌜ Framed (now net) shape (now state) ⌝ }
     requires { ⌜ (t < byte (now net) 6) × (age .0 < shape .width) ⌝ }

@@ -53,7 +53,7 @@ pub fn report(net: &[u8], shape: Net, state: &[u8]) -> Owed
 }
 
 // How the state stands, by its two words: the first that holds.
-pub fn standing(net: &[u8], shape: Net, state: &[u8], starts: u64, ends: u64) -> Standing
+fn standing(net: &[u8], shape: Net, state: &[u8], starts: u64, ends: u64) -> Standing
     requires { ⌜ Framed (now net) shape (now state) ⌝ }
     requires { ⌜ starts ≡ wordOf (netOf (now net) .transitions) (owes-start? (netOf (now net)) (stored (now net) (now state))) ⌝ }
     requires { ⌜ ends ≡ wordOf (netOf (now net) .transitions) (owes-end? (netOf (now net)) (stored (now net) (now state))) ⌝ }

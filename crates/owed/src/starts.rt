@@ -8,15 +8,24 @@ ghost use Rattle.model.specs.Rules.{enabled?, no-start-owed?};
 ghost use Rattle.forms.specs.Word.{byte};
 ghost use Rattle.forms.specs.Stored.{netOf, stored};
 ghost use Rattle.forms.specs.Frame.{Framed};
+ghost use Rattle.owed.specs.Marks.{lackingPlace};
 
-// Transition t is enabled: no place is short of its input weight.
+// The lowest place that lacks tokens for a start of transition t, or the number of places where none does.
+pub fn lacking(net: &[u8], shape: Net, state: &[u8], t: usize) -> usize
+    requires { ⌜ Framed (now net) shape (now state) ⌝ }
+    requires { ⌜ t < byte (now net) 6 ⌝ }
+    ensures { λ r. ⌜ r ≡ lackingPlace (netOf (now (net .entry))) (stored (now (net .entry)) (now (state .entry))) t ⌝ }
+{
+    marks::short_place(net, places::inputs_at(shape.places, t), state, shape.places)
+}
+
+// Transition t is enabled: no place lacks tokens.
 pub fn enabled(net: &[u8], shape: Net, state: &[u8], t: usize) -> bool
     requires { ⌜ Framed (now net) shape (now state) ⌝ }
     requires { ⌜ t < byte (now net) 6 ⌝ }
     ensures { λ r. ⌜ r ≡ enabled? (netOf (now (net .entry))) (stored (now (net .entry)) (now (state .entry))) t 1 ⌝ }
 {
-    let from = places::inputs_at(shape.places, t);
-    marks::short_place(net, from, state, shape.places) == shape.places
+    lacking(net, shape, state, t) == shape.places
 }
 
 // No transition is enabled.
