@@ -1,0 +1,54 @@
+-- One event on given bytes: computed.
+-- Assumes nothing.
+use mathlib.Core.Path.{refl}
+use Rattle.model.specs.Tab.{tab, all, largest, one}
+use Rattle.model.specs.Net.{width, tokens, count, build}
+use Rattle.model.specs.Rules.{enabled?, no-start-owed?, no-end-owed?, nothing-running?, timely?, has-room?, covers?, none-fresh?, started, ended, older, ticked, apply, unstarted, unended, unticked, back}
+use Rattle.forms.specs.Word.{word, setWord, putWords, putRows}
+use Rattle.forms.specs.Places.{rowAt, countAt}
+use Rattle.forms.specs.Stored.{netOf, stateOf}
+use Rattle.forms.specs.Written.{written}
+use Rattle.moves.specs.Edges.{DoneNumbers, UndoneNumbers}
+
+pub done-numbers : DoneNumbers
+unfolding
+    tab all largest one width tokens count build enabled? no-start-owed? no-end-owed? nothing-running? timely? has-room? started ended older
+    ticked apply word setWord putWords putRows rowAt countAt netOf stateOf written
+done-numbers = record {
+  start = (refl, refl);
+  tick = (refl, refl);
+  tick-last = (refl, refl);
+  end = (refl, refl);
+  malformed = (refl, refl);
+  tick-malformed = (refl, refl);
+  start-malformed = (refl, refl);
+  no-start = (refl, refl);
+  no-end = (refl, refl);
+  not-enabled = (refl, refl);
+  count-full = (refl, refl);
+  outside = (refl, refl);
+  none-of-that-age = (refl, refl);
+  place-full = (refl, refl);
+  start-owed = (refl, refl);
+  end-owed = (refl, refl);
+  nothing-running = (refl, refl);
+}
+
+pub undone-numbers : UndoneNumbers
+unfolding
+    tab all largest one width tokens count build enabled? no-start-owed? nothing-running? timely? has-room? covers? none-fresh? unstarted unended
+    unticked back word setWord putWords putRows rowAt countAt netOf stateOf written
+undone-numbers = record {
+  start = (refl, refl);
+  tick = (refl, refl);
+  end = (refl, refl);
+  malformed = (refl, refl);
+  no-start = (refl, refl);
+  no-end = (refl, refl);
+  none-started = (refl, refl);
+  place-full = (refl, refl);
+  none-ended = (refl, refl);
+  start-owed = (refl, refl);
+  fresh = (refl, refl);
+  rest = (refl, refl);
+}

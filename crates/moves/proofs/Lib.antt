@@ -1,0 +1,10 @@
+pub mod Shifting
+pub mod Ticking
+pub mod Marked
+pub mod Fired
+pub mod Looked
+pub mod Starting
+pub mod Ending
+pub mod Undone
+pub mod Edges
+pub mod Determined

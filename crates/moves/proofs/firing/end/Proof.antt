@@ -1,0 +1,188 @@
+-- `firing::end` meets its contract: each return is a case of the rules' outcome.
+-- Assumes nothing.
+use mathlib.Core.Path.{_≡_}
+use mathlib.Core.Bool.{true, false}
+use Prim.Native.Nat.{ℕ, _+_, _<_}
+use native.Mathlib.Omega.{arith}
+use Rattle.model.specs.Rules.{timely?}
+use Rattle.model.proofs.Alls.{passed, failed}
+use Rattle.forms.specs.Word.{Bytes, byte}
+use Rattle.forms.specs.Stored.{netOf}
+use Rattle.forms.proofs.States.{places-same}
+use Rattle.forms.proofs.Inside.{count-inside}
+use Rattle.owed.specs.Marks.{roomy?}
+use Rattle.owed.proofs.Tests.{outputs-right}
+use Rattle.moves.proofs.Fired.{known-byte, row-limits, count-limits, outputs-inside, roomy-each}
+use Rattle.moves.proofs.Ending.{end-unknown, end-untimely, end-none, end-full, end-done, young}
+use borrow.Author.Needs.{needs}
+use Rattle.moves.proofs.firing.end.Statement.{statement}
+use Rattle.moves.proofs.firing.end.Tie as tie
+
+-- WHAT THE CODE HAS LEARNT AT A PLACE
+
+-- the net has the transition
+known : (c : tie.Else1) → c .before .before .before .before .args .t < byte (c .before .before .before .before .args .net .now) 6
+known c =
+    let e = c .before .before .before .before in
+    known-byte (e .args .net .now) (e .args .shape) (e .args .state .now) (e .pre) (e .args .t) (omega (arith, c .if1 .left))
+
+-- it may end at the age
+timely : (c : tie.Else2) → timely? (netOf (c .before .before .before .before .before .before .args .net .now)) (c .before .before .before .before .before .before .args .t) (c .before .before .before .before .before .before .args .age .0) ≡ true
+timely c = passed (c .before .timely .ensures) (c .if2 .left)
+
+-- and so the age has its column
+column : (c : tie.Else2) → c .before .before .before .before .before .before .args .age .0 < c .before .before .before .before .before .before .args .shape .width
+column c =
+    let e = c .before .before .before .before .before .before in
+    young (e .args .net .now) (e .args .shape) (e .args .state .now) (e .pre) (e .args .t) (e .args .age) (known (c .before .before)) (timely c)
+
+-- where its output weights stand
+right : (c : tie.After-outputs-at) → (p : ℕ) → byte (c .before .before .before .before .before .before .before .before .before .before .args .net .now) (c .outputs-at .result + p) ≡ netOf (c .before .before .before .before .before .before .before .before .before .before .args .net .now) .gives (c .before .before .before .before .before .before .before .before .before .before .args .t) p
+right c =
+    let e = c .before .before .before .before .before .before .before .before .before .before in
+    outputs-right (e .args .net .now) (e .args .t) (e .args .shape .places) (c .outputs-at .result)
+    (places-same (e .args .net .now) (e .args .shape) (e .pre .net-framed)) (c .outputs-at .ensures)
+
+-- the buffer holds bytes
+small : (c : tie.After-slice-known) → Bytes (c .before .before .args .state .now)
+small c = λ k. omega (arith, c .slice-known .given k)
+
+-- every place has room for its weight, or one has none
+roomy : (c : tie.Else4) → roomy? (c .before .before .before .before .before .before .before .before .before .before .before .before .before .args .net .now) (c .before .before .before .outputs-at .result) (c .before .before .before .before .before .before .before .before .before .before .before .before .before .args .state .now) (c .before .before .before .before .before .before .before .before .before .before .before .before .before .args .shape .places) ≡ true
+roomy c = passed (c .before .roomy .ensures) (c .if4 .left)
+
+full : (c : tie.Then4) → roomy? (c .before .before .before .before .before .before .before .before .before .before .before .before .before .args .net .now) (c .before .before .before .outputs-at .result) (c .before .before .before .before .before .before .before .before .before .before .before .before .before .args .state .now) (c .before .before .before .before .before .before .before .before .before .before .before .before .before .args .shape .places) ≡ false
+full c = failed (c .before .roomy .ensures) (c .if4 .taken)
+
+-- WHAT IS ASKED THERE
+
+returns : tie.Need-returns
+returns c =
+    let e = c .before .before .before .before in
+    let net = e .args .net .now in
+    let b = e .args .state .now in
+    end-unknown net (e .args .shape) b (e .pre) (e .args .t) (e .args .age) (c .if1 .taken)
+
+timely-requires : tie.Need-timely-requires
+timely-requires c κs =
+    (c .before .before .before .before .pre .net-framed .is-net, known c)
+
+returns-2 : tie.Need-returns-2
+returns-2 c =
+    let e = c .before .before .before .before .before .before in
+    let net = e .args .net .now in
+    let b = e .args .state .now in
+    end-untimely net (e .args .shape) b (e .pre) (e .args .t) (e .args .age) (known (c .before .before)) (failed (c .before .timely .ensures) (c .if2 .taken))
+
+count-requires : tie.Need-count-requires
+count-requires c κs =
+    (c .before .before .before .before .before .before .before .pre, (known (c .before .before .before), column (c .before)))
+
+same-length : tie.Need-same-length
+same-length c = search needs
+
+returns-3 : tie.Need-returns-3
+returns-3 c =
+    let e = c .before .before .before .before .before .before .before .before .before in
+    let net = e .args .net .now in
+    let b = e .args .state .now in
+    let two = c .before .before .before in
+    let q = c .before .count in
+    end-none net (e .args .shape) b (e .pre) (e .args .t) (e .args .age) (known (two .before .before)) (timely two) (q .result) (q .ensures .0) (c .if3 .taken)
+
+outputs-at-requires : tie.Need-outputs-at-requires
+outputs-at-requires c κs =
+    let e = c .before .before .before .before .before .before .before .before .before in
+    row-limits (e .args .net .now) (e .args .shape) (e .args .state .now) (e .pre) (e .args .t) (known (c .before .before .before .before .before))
+
+roomy-requires : tie.Need-roomy-requires
+roomy-requires c κs =
+    let e = c .before .before .before .before .before .before .before .before .before .before .before in
+    outputs-inside (e .args .net .now) (e .args .shape) (e .args .state .now) (e .pre) (e .args .t) (known (c .before .before .before .before .before .before .before)) (c .before .outputs-at .result) (c .before .outputs-at .ensures)
+
+same-length-2 : tie.Need-same-length-2
+same-length-2 c = search needs
+
+returns-4 : tie.Need-returns-4
+returns-4 c =
+    let e = c .before .before .before .before .before .before .before .before .before .before .before .before .before in
+    let net = e .args .net .now in
+    let b = e .args .state .now in
+    let two = c .before .before .before .before .before .before .before in
+    let q = c .before .before .before .before .before .count in
+    let at = c .before .before .before in
+    end-full net (e .args .shape) b (e .pre) (e .args .t) (e .args .age) (known (two .before .before)) (timely two) (q .result) (q .ensures .0) (at .outputs-at .result) (right at)
+    (omega (arith, at .before .if3 .left)) (full c)
+
+give-requires : tie.Need-give-requires
+give-requires c κs =
+    let e = c .before .before .before .before .before .before .before .before .before .before .before .before .before .before in
+    let net = e .args .net .now in
+    let b = e .args .state .now in
+    let at = c .before .before .before .before in (
+      outputs-inside net (e .args .shape) b (e .pre) (e .args .t) (known (c .before .before .before .before .before .before .before .before .before .before)) (at .outputs-at .result) (at .outputs-at .ensures),
+      roomy-each net (at .outputs-at .result) b (e .args .shape .places) (roomy (c .before)),
+    )
+
+column-requires : tie.Need-column-requires
+column-requires c κs = search needs
+
+count-at-requires : tie.Need-count-at-requires
+count-at-requires c κs =
+    let e = c .before .before .before .before .before .before .before .before .before .before .before .before .before .before .before .before .before .before .before in
+    let two = c .before .before .before .before .before .before .before .before .before .before .before .before .before in
+    count-limits (e .args .net .now) (e .args .shape) (e .args .state .now) (e .pre) (e .args .t) (known (two .before .before)) (e .args .age) (c .column .result) (column two) (c .column .ensures)
+
+sub-write16 : tie.Need-sub-write16
+sub-write16 c = search needs
+
+write16-requires : tie.Need-write16-requires
+write16-requires c κs =
+    let e = c .before .before .before .before .before .before .before .before .before .before .before .before .before .before .before .before .before .before .before .before in
+    let net = e .args .net .now in
+    let b = e .args .state .now in
+    let two = c .before .before .before .before .before .before .before .before .before .before .before .before .before .before in
+    let to = c .before .column in (
+      omega (arith, count-inside net (e .args .shape) b (e .pre) (e .args .t) (known (two .before .before)) (e .args .age) (to .result) (c .count-at .result) (column two) (to .ensures) (c .count-at .ensures)),
+      omega (arith, c .before .before .before .before .before .before .before .before .before .before .before .before .count .ensures .1),
+    )
+
+same-length-3 : tie.Need-same-length-3
+same-length-3 c = search needs
+
+returns-5 : tie.Need-returns-5
+returns-5 c =
+    let e = c .before .before .before .before .before .before .before .before .before .before .before .before .before .before .before .before .before .before .before .before .before .before .before in
+    let net = e .args .net .now in
+    let b = e .args .state .now in
+    let two = c .before .before .before .before .before .before .before .before .before .before .before .before .before .before .before .before .before in
+    let q = c .before .before .before .before .before .before .before .before .before .before .before .before .before .before .before .count in
+    let at = c .before .before .before .before .before .before .before .before .before .before .before .before .before in
+    let cell = c .before .before .before in
+    let to = cell .before .column in
+    end-done net (e .args .shape) b (e .pre) (e .args .t) (e .args .age) (known (two .before .before)) (timely two) (q .result) (q .ensures .0) (at .outputs-at .result) (right at)
+    (small (c .before .before .before .before .before .before .before .before .before .before .before .before .before .before .before .before .before .before .before .before .before)) (to .result) (cell .count-at .result) (to .ensures) (cell .count-at .ensures) _ _
+    (omega (arith, at .before .if3 .left)) (q .ensures .1) (roomy (c .before .before .before .before .before .before .before .before .before .before))
+    (c .before .before .before .before .before .before .before .before .give .ensures) (c .before .before .write16 .ensures)
+
+pub end-spec : {M : Type 1} → statement M
+end-spec =
+    tie.close
+    (tie.spec
+    returns
+    timely-requires
+    returns-2
+    count-requires
+    same-length
+    returns-3
+    outputs-at-requires
+    roomy-requires
+    same-length-2
+    returns-4
+    give-requires
+    column-requires
+    count-at-requires
+    sub-write16
+    write16-requires
+    same-length-3
+    returns-5)

@@ -1,0 +1,4 @@
+pub mod Shift
+pub mod Marking
+pub mod After
+pub mod Edges
