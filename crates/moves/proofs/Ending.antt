@@ -27,8 +27,8 @@ use Rattle.forms.proofs.Inside.{lfd-young}
 use Rattle.owed.specs.Marks.{roomy?}
 use Rattle.owed.proofs.Tests.{roomy-is}
 use Rattle.moves.specs.Marking.{less, more}
-use Rattle.moves.specs.After.{applied, takenBack}
-use Rattle.moves.proofs.Fired.{Answers, unknown-test, known-test, one-more, roomy-each, raised, lowered}
+use Rattle.moves.specs.After.{applied, takenBack, Answers}
+use Rattle.moves.proofs.Fired.{unknown-test, known-test, one-more, roomy-each, raised, lowered}
 
 module _ (net : List ℕ) (shape : Shape) (b : List ℕ) (f : Framed net shape b) (t : ℕ) (age : Age) where
   pub end-unknown : shape .transitions ≤ t → Answers net b (applied net b (event.End t age)) (answer.Refused refusal.NoSuchTransition) b

@@ -14,13 +14,11 @@ use lib.Dec.{ltb}
 use lib.ListN.{length}
 use Rattle.model.specs.declared.age.Age.{Age}
 use Rattle.model.specs.declared.age.Column.{Column}
-use Rattle.model.specs.declared.answer.Answer.{Answer}
 use Rattle.model.specs.declared.net.Net.{Net as Shape}
 use Rattle.model.specs.Age.{columnOf}
 use Rattle.model.specs.Limits.{Held, held?}
 use Rattle.model.specs.Tab.{one}
 use Rattle.model.specs.Net.{Net, State, width, tokens, count, build}
-use Rattle.model.specs.Rules.{Outcome, answerOf}
 use Rattle.model.proofs.Tab.{below-or-past, one-here, one-off, all-tells}
 use Rattle.model.proofs.Tests.{held-tells}
 use Rattle.model.proofs.Alls.{holds}
@@ -37,7 +35,6 @@ use Rattle.forms.proofs.States.{places-small, transitions-small, width-small, t
 use Rattle.forms.proofs.Inside.{mark-stands, marks-inside, row-fits, known-shape, known-model}
 use Rattle.owed.specs.Marks.{roomy?}
 use Rattle.moves.specs.Marking.{less, more}
-use Rattle.moves.specs.After.{after}
 
 -- two cells of a matrix with d columns stand at one place only if they are one cell
 cell-once : (d t j u k : ℕ) → j < d → k < d → t * d + j ≡ u * d + k → (t ≡ u) × (j ≡ k)
@@ -189,9 +186,3 @@ roomy-each net from b n e = holds (all-tells n (λ p. held-tells (word b (markAt
 -- the count that the code found, one more: the test of the code is the model's
 pub one-more : {v n : ℕ} {r : Bool} → v ≡ n → held? (v + 1) ≡ r → held? (suc n) ≡ r
 one-more {v} e h = rw (add-one v, e) at h
-
--- THE RETURNS
-
--- r and the buffer y are what the outcome says, where the buffer was b
-abbrev pub Answers : List ℕ → List ℕ → Outcome → Answer → List ℕ → Type 0
-Answers net b outcome r y = (r ≡ answerOf outcome) × (y ≡ after (netOf net) outcome b)

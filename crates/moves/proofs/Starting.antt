@@ -27,8 +27,8 @@ use Rattle.forms.proofs.Inside.{mark-stands}
 use Rattle.owed.specs.Marks.{roomy?}
 use Rattle.owed.proofs.Tests.{inputs-right, roomy-is}
 use Rattle.moves.specs.Marking.{less, more}
-use Rattle.moves.specs.After.{applied, takenBack}
-use Rattle.moves.proofs.Fired.{raised, lowered, unknown-test, known-test, roomy-each, one-more, Answers}
+use Rattle.moves.specs.After.{applied, takenBack, Answers}
+use Rattle.moves.proofs.Fired.{raised, lowered, unknown-test, known-test, roomy-each, one-more}
 
 module _ (net : List ℕ) (shape : Shape) (b : List ℕ) (f : Framed net shape b) (t : ℕ) where
   pub start-unknown : shape .transitions ≤ t → Answers net b (applied net b (event.Start t)) (answer.Refused refusal.NoSuchTransition) b

@@ -15,7 +15,7 @@ use Rattle.model.specs.declared.answer.Refusal.the-variants as refusal
 use Rattle.model.specs.declared.event.Event.the-variants as event
 use Rattle.model.specs.declared.net.Net.{Net as Shape}
 use Rattle.model.specs.Net.{Net, State, width, tokens, count}
-use Rattle.model.specs.Rules.{Outcome, answerOf, apply, back, no-start-owed?, no-end-owed?, none-fresh?, nothing-running?, older, ticked, unticked}
+use Rattle.model.specs.Rules.{apply, back, no-start-owed?, no-end-owed?, none-fresh?, nothing-running?, older, ticked, unticked}
 use Rattle.model.proofs.Tab.{at-or-below}
 use Rattle.model.proofs.Tests.{no-end-owed-tells, none-fresh-tells}
 use Rattle.model.proofs.Alls.{holds}
@@ -32,7 +32,7 @@ use Rattle.forms.proofs.Stored.{state-shaped, tokens-are, count-is, count-at}
 use Rattle.forms.proofs.Nets.{some-transition}
 use Rattle.forms.proofs.Inside.{clock-inside}
 use Rattle.moves.specs.Shift.{later, sooner}
-use Rattle.moves.specs.After.{applied, takenBack, after}
+use Rattle.moves.specs.After.{applied, takenBack, Answers}
 
 -- THE CLOCK AS ONE BLOCK
 
@@ -151,10 +151,6 @@ module _ (net : List ℕ) (shape : Shape) (b : List ℕ) (f : Framed net shape b
     unaged none e = rw (place-model, many-model) at e ∙ shifted-down (netOf net) b none small
 
 -- THE RETURNS
-
--- the answer and the bytes are those of the outcome
-abbrev pub Answers : List ℕ → List ℕ → Outcome → Answer → List ℕ → Type 0
-Answers net b o r b′ = (r ≡ answerOf o) × (b′ ≡ after (netOf net) o b)
 
 module _ (net b : List ℕ) where
   abbrev N₀ : Net
