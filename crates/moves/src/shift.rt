@@ -7,7 +7,7 @@ ghost use Rattle.forms.specs.Word.{putWords};
 ghost use Rattle.moves.specs.Shift.{later, sooner};
 
 // Moves each word of the block to the next place, the last one first, and puts 0 in the first: what stood in the last is lost.
-// The bytes are counted, not pointed at: so written, the loop compiles to one move of memory.
+// The bytes are counted, not pointed at, which lets a compiler make one move of memory of the loop.
 pub fn shift_up(s: &mut [u8], base: usize, cells: usize)
     requires { ⌜ (1 ≤ cells) × (base + 2 * cells ≤ length (now s)) ⌝ }
     ensures { λ _. ⌜ now (s .exit) ≡ putWords base cells (later (now (s .entry)) base) (now (s .entry)) ⌝ }
