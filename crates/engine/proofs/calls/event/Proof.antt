@@ -1,0 +1,60 @@
+-- `calls::event` meets its contract: behind net and state, the event is done.
+-- Assumes nothing.
+use mathlib.Core.Path.{refl, sym, _∙_}
+use Rattle.engine.specs.Calls.{eventTold, eventLeft}
+use Rattle.engine.proofs.Fits.{state-fits}
+use borrow.Author.Needs.{needs}
+use Rattle.engine.proofs.calls.event.Statement.{statement}
+use Rattle.engine.proofs.calls.event.Tie as tie
+
+examine-state-requires : tie.Need-examine-state-requires
+examine-state-requires c κs = search needs
+
+enum-known-shape : tie.Need-enum-known-shape
+enum-known-shape c = search needs
+
+apply-requires : tie.Need-apply-requires
+apply-requires c κs = state-fits _ _ _ (sym (c .before .before .before .before .examine-state .ensures) ∙ c .before .before .shape .given .1)
+
+answered-requires : tie.Need-answered-requires
+answered-requires c κs = search needs
+
+enum-known-fault : tie.Need-enum-known-fault
+enum-known-fault c = search needs
+
+unfit-requires : tie.Need-unfit-requires
+unfit-requires c κs = search needs
+
+same-length : tie.Need-same-length
+same-length c = search needs
+
+returns : tie.Need-returns
+unfolding eventTold eventLeft
+returns c =
+    let i = c .before .before .before in
+    let f = i .before .before .before in
+    rw (sym (f .before .before .examine-state .ensures) ∙ f .shape .given .1, c .answered .ensures) (rw (i .apply .ensures .0), i .apply .ensures .1)
+
+same-length-2 : tie.Need-same-length-2
+same-length-2 c = search needs
+
+returns-2 : tie.Need-returns-2
+unfolding eventTold eventLeft
+returns-2 c =
+    let f = c .before .before in
+    rw (sym (f .before .before .examine-state .ensures) ∙ f .fault .given .1) (c .unfit .ensures, refl)
+
+pub event-spec : {M : Type 1} → statement M
+event-spec =
+    tie.close
+    (tie.spec
+    examine-state-requires
+    enum-known-shape
+    apply-requires
+    answered-requires
+    enum-known-fault
+    unfit-requires
+    same-length
+    returns
+    same-length-2
+    returns-2)

@@ -1,0 +1,4 @@
+pub mod Examined
+pub mod Answers
+pub mod Calls
+pub mod Steps
