@@ -1,5 +1,5 @@
 -- Each public function's promise determines its answer: two answers that it permits for the same arguments are equal. What is
--- cited is the promise itself, as a caller learns it.
+-- cited is the promise itself, as a caller learns it. The two statements serve every crate.
 -- Assumes nothing.
 use mathlib.Core.Path.{_≡_, sym, _∙_}
 use mathlib.Core.List.{List}
@@ -35,6 +35,12 @@ abbrev pub Determined : (n : ℕ) (ps : List (PK n)) (r : RK n) → Out n ps r �
 Determined n ps r promise =
     (κs : Lfts n) (args : Dens κs ps) (x y : resT r κs .Denot) (s s′ : AtExit (endedOf n ps r) κs)
     → promise κs args x s → promise κs args y s′ → x ≡ y
+
+-- and one content at exit of the buffer that stands there among what is lent
+abbrev pub Leaves : (n : ℕ) (ps : List (PK n)) (r : RK n) → Out n ps r → ((κs : Lfts n) → AtExit (endedOf n ps r) κs → List ℕ) → Type 0
+Leaves n ps r promise buffer =
+    (κs : Lfts n) (args : Dens κs ps) (x y : resT r κs .Denot) (s s′ : AtExit (endedOf n ps r) κs)
+    → promise κs args x s → promise κs args y s′ → buffer κs s ≡ buffer κs s′
 
 pub age-column-determined : Determined 0 age-column-kinds.ps age-column-kinds.r age-column.Learnt
 age-column-determined κs args x y s s′ p q = p ∙ sym q
