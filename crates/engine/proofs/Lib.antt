@@ -1,3 +1,9 @@
+pub mod Cases
 pub mod Fits
 pub mod StepParts
+pub mod Courses
+pub mod PastChecks
+pub mod Demands
+pub mod Checks
+pub mod Faults
 pub mod Determined

@@ -1,0 +1,85 @@
+-- Past the checks: bytes in their frame are found fit, and then each call tells what the model computes of what stands in the bytes,
+-- and leaves the model's state written over the front.
+-- Assumes nothing.
+use mathlib.Core.Path.{_≡_, sym}
+use mathlib.Core.List.{List}
+use Prim.Native.Nat.{ℕ}
+use Rattle.model.specs.declared.net.Net.{Net as Shape}
+use Rattle.model.specs.Event.{eventOf}
+use Rattle.model.specs.Rules.{answerOf}
+use Rattle.forms.specs.Stored.{netOf, stored}
+use Rattle.forms.specs.Written.{written}
+use Rattle.forms.specs.States.{checkState}
+use Rattle.forms.specs.Logs.{IsLog, checkLog}
+use Rattle.forms.specs.Frame.{Framed}
+use Rattle.forms.proofs.Nets.{net-exact}
+use Rattle.forms.proofs.States.{state-exact}
+use Rattle.forms.proofs.Logs.{log-exact}
+use Rattle.owed.specs.Reported.{reported}
+use Rattle.moves.specs.After.{applied, takenBack, after}
+use Rattle.runs.specs.Runs.{ran, walked, toldOf}
+use Rattle.engine.specs.declared.examine.Examined.the-variants as examined
+use Rattle.engine.specs.Examined.{examineNet, examineState, examineLog}
+use Rattle.engine.specs.Answers.{answered, degreeOf, owedOf}
+use Rattle.engine.specs.Calls.{eventTold, eventLeft, backTold, backLeft}
+use Rattle.engine.specs.Calls.{degreeTold, owedTold, eventsOf, runTold, runLeft, walkTold, walkLeft}
+use Rattle.engine.proofs.Fits.{net-good, still-fit}
+
+-- BYTES IN THEIR FRAME ARE FOUND FIT
+
+module _ (net : List ℕ) (shape : Shape) (b : List ℕ) (f : Framed net shape b) where
+  fits-net : examineNet net ≡ examined.Fit shape
+  fits-net = sym (net-good net shape (net-exact net .1 (f .net-framed .is-net)) (f .net-framed .has-shape))
+
+  pub fits-state : examineState net b ≡ examined.Fit shape
+  unfolding examineState
+  fits-state = sym (still-fit (examineNet net) (checkState (netOf net) b) fits-net (state-exact (netOf net) b .1 (f .is-state)))
+
+  pub fits-log : (log : List ℕ) → IsLog log → examineLog net b log ≡ examined.Fit shape
+  unfolding examineLog
+  fits-log log l = sym (still-fit (examineState net b) (checkLog log) fits-state (log-exact log .1 l))
+
+-- WHAT THE CALLS TELL AND LEAVE, BEHIND THEIR CHECKS
+
+module _ (net : List ℕ) (shape : Shape) (b : List ℕ) (f : Framed net shape b) where
+  module _ (first second : ℕ) where
+    pub event-told : eventTold net b first second ≡ answered (answerOf (applied net b (eventOf first second)))
+    unfolding eventTold
+    event-told = rw (fits-state net shape b f)
+
+    pub event-left : eventLeft net b first second ≡ after (netOf net) (applied net b (eventOf first second)) b
+    unfolding eventLeft
+    event-left = rw (fits-state net shape b f)
+
+    pub back-told : backTold net b first second ≡ answered (answerOf (takenBack net b (eventOf first second)))
+    unfolding backTold
+    back-told = rw (fits-state net shape b f)
+
+    pub back-left : backLeft net b first second ≡ after (netOf net) (takenBack net b (eventOf first second)) b
+    unfolding backLeft
+    back-left = rw (fits-state net shape b f)
+
+  pub degree-told : (t : ℕ) → degreeTold net b t ≡ degreeOf (netOf net) (stored net b) t
+  unfolding degreeTold
+  degree-told t = rw (fits-state net shape b f)
+
+  pub owed-told : owedTold net b ≡ owedOf (reported (netOf net) (stored net b))
+  unfolding owedTold
+  owed-told = rw (fits-state net shape b f)
+
+  module _ (log : List ℕ) (l : IsLog log) where
+    pub run-told : runTold net b log ≡ toldOf (ran net b (eventsOf log))
+    unfolding runTold
+    run-told = rw (fits-log net shape b f log l)
+
+    pub run-left : runLeft net b log ≡ written (netOf net) (ran net b (eventsOf log) .state) b
+    unfolding runLeft
+    run-left = rw (fits-log net shape b f log l)
+
+    pub walk-told : (n : ℕ) → walkTold net b log n ≡ toldOf (walked net b (eventsOf log) n)
+    unfolding walkTold
+    walk-told n = rw (fits-log net shape b f log l)
+
+    pub walk-left : (n : ℕ) → walkLeft net b log n ≡ written (netOf net) (walked net b (eventsOf log) n .state) b
+    unfolding walkLeft
+    walk-left n = rw (fits-log net shape b f log l)

@@ -1,0 +1,224 @@
+-- Demands 2 and 3 on bytes: what the calls tell and leave of a net, a state and a log that got past the checks, in the words of the
+-- model's relations; and that a call refused before its first event tells the fault and writes nothing. The contracts in src/calls.rt
+-- have the left sides.
+-- Assumes nothing.
+use mathlib.Core.Path.{_≡_}
+use mathlib.Core.Logic.{_↔_}
+use mathlib.Core.List.{List, _++_}
+use Prim.Native.Nat.{ℕ, _+_, _-_, _<_, _≤_}
+use lib.ListN.{length, take}
+use Rattle.model.specs.declared.net.Net.{Net as Shape}
+use Rattle.model.specs.declared.answer.Refusal.{Refusal}
+use Rattle.model.specs.declared.answer.Standing.{Standing}
+use Rattle.model.specs.Answer.{numberOfRefusal, numberOfStanding}
+use Rattle.model.specs.Event.{eventOf}
+use Rattle.model.specs.Tab.{Tells}
+use Rattle.model.specs.Net.{State, Lawful}
+use Rattle.model.specs.Moves.{Degree, Moves}
+use Rattle.model.specs.Refusals.{Refuses, Barred}
+use Rattle.model.specs.Run.{Told as Account, Leads, Ran, Walked, lastOf, ticksIn}
+use Rattle.model.specs.Owed.{OwesStart, OwesEnd, HowMany, wordBits, Lowest, Stands}
+use Rattle.model.specs.Demands.{SomeLeads}
+use Rattle.forms.specs.declared.fault.Fault.{Fault}
+use Rattle.forms.specs.declared.fault.Checked.the-variants as checked
+use Rattle.forms.specs.Checked.{numberOfFault}
+use Rattle.forms.specs.Word.{Bytes, byte}
+use Rattle.forms.specs.Places.{imageLength}
+use Rattle.forms.specs.Stored.{netOf, stored, logEvents}
+use Rattle.forms.specs.Written.{written}
+use Rattle.forms.specs.Logs.{checkLog}
+use Rattle.forms.specs.Frame.{Began}
+use Rattle.owed.specs.Bits.{bitAt}
+use Rattle.runs.specs.declared.told.Told.{Told}
+use Rattle.runs.specs.Runs.{toldFault}
+use Rattle.engine.specs.declared.examine.Examined.{Examined}
+use Rattle.engine.specs.declared.examine.Examined.the-variants as examined
+use Rattle.engine.specs.Examined.{examineNet, examineState, examineLog}
+use Rattle.engine.specs.Answers.{verdict, accepted, unfit, tellsDegree, noDegree, noReport, tellsStep}
+use Rattle.engine.specs.Calls.{netTold, stateTold, initialTold, initialLeft, eventTold, eventLeft, backTold, backLeft}
+use Rattle.engine.specs.Calls.{degreeTold, owedTold, runTold, runLeft, walkTold, walkLeft, stepTold}
+
+-- what a call was given got past its checks
+abbrev pub Passes : Examined → Type 0
+Passes e = (shape : Shape) × (e ≡ examined.Fit shape)
+
+-- the four numbers told
+abbrev pub tells : ℕ → ℕ → ℕ → ℕ → Told
+tells number index done ticks = record { number = number; index = index; done = done; ticks = ticks }
+
+-- the four numbers told, and a state, as the model's account of a run or a walk
+abbrev pub account : Told → State → Account
+account r S = record { number = r .number; index = r .index; done = r .done; ticks = r .ticks; state = S }
+
+-- of the buffer b the call leaves b′, which holds S at its front. It is b with S written over the state: S is read from it, it passes
+-- the check of states as b does, and the head and all bytes behind the state are b's
+pub record Leaves (net b b′ : List ℕ) (S : State) : Type 0 where
+  pub whole : b′ ≡ written (netOf net) S b
+  pub reads : stored net b′ ≡ S
+  pub passes : examineState net b′ ≡ examineState net b
+  pub bytes : Bytes b′
+  pub long : length b′ ≡ length b
+  pub head-stays : (i : ℕ) → i < 8 → byte b′ i ≡ byte b i
+  pub rest-stays : (i : ℕ) → imageLength (netOf net) ≤ i → byte b′ i ≡ byte b i
+
+-- DEMAND 2
+
+-- an event, given by its two bytes, done in the state that stands in b
+pub record EventDone (net b : List ℕ) (first second : ℕ) : Type 0 where
+  -- it is accepted exactly when the rules permit it
+  pub permitted : (eventTold net b first second .number ≡ 0)
+      ↔ ((S′ : State) × Moves (netOf net) (stored net b) (eventOf first second) S′)
+  -- and the state that the rules give is left
+  pub done : (S′ : State) → Moves (netOf net) (stored net b) (eventOf first second) S′
+      → (eventTold net b first second ≡ accepted) × Leaves net b (eventLeft net b first second) S′
+  -- each refusal is told exactly when document 01 says
+  pub refused : (why : Refusal) → (eventTold net b first second ≡ verdict (numberOfRefusal why) 0)
+      ↔ Refuses (netOf net) (stored net b) (eventOf first second) why
+  -- and a refused event changes no byte
+  pub kept : ¬ (eventTold net b first second .number ≡ 0) → eventLeft net b first second ≡ b
+
+-- a log, run from the state that stands in b
+pub record LogRun (net b log : List ℕ) : Type 0 where
+  -- it is accepted exactly when each event in turn is permitted
+  pub permitted : (runTold net b log .number ≡ 0) ↔ ((S′ : State) × Leads (netOf net) (stored net b) (logEvents log) S′)
+  -- and then all its events and ticks are told, and the state that they lead to is left
+  pub done : (S′ : State) → Leads (netOf net) (stored net b) (logEvents log) S′
+      → (runTold net b log ≡ tells 0 (length (logEvents log)) (length (logEvents log)) (ticksIn (logEvents log)))
+      × Leaves net b (runLeft net b log) S′
+  -- what is told of any log, accepted or refused, is exact, and the state just before the refused event is left
+  pub told : (S′ : State) × Ran (netOf net) (stored net b) (logEvents log) (account (runTold net b log) S′)
+      × Leaves net b (runLeft net b log) S′
+
+-- fed in two portions, the first accepted, a log tells and leaves what it does when it is fed whole
+pub record InPortions (net b one other whole : List ℕ) : Type 0 where
+  pub number : runTold net (runLeft net b one) other .number ≡ runTold net b whole .number
+  pub index : runTold net b one .index + runTold net (runLeft net b one) other .index ≡ runTold net b whole .index
+  pub done : runTold net b one .done + runTold net (runLeft net b one) other .done ≡ runTold net b whole .done
+  pub ticks : runTold net b one .ticks + runTold net (runLeft net b one) other .ticks ≡ runTold net b whole .ticks
+  pub left : runLeft net (runLeft net b one) other ≡ runLeft net b whole
+
+-- the degree of a transition, Definition 4; 12 where the net has no such transition
+pub record DegreeGiven (net b : List ℕ) (t : ℕ) : Type 0 where
+  pub known : t < netOf net .transitions → (n : ℕ) → (degreeTold net b t ≡ tellsDegree 0 0 n) ↔ Degree (netOf net) (stored net b) t n
+  pub unknown : ¬ (t < netOf net .transitions) → degreeTold net b t ≡ tellsDegree 12 0 0
+
+-- the owed report: the bits of each word, how many are set, the lowest; and the standing
+pub record OwedGiven (net b : List ℕ) : Type 0 where
+  pub number-is : owedTold net b .number ≡ 0
+  pub index-is : owedTold net b .index ≡ 0
+  pub starts-are : (t : ℕ) → Tells (bitAt (owedTold net b .starts .word) t) (OwesStart (netOf net) (stored net b) t)
+  pub ends-are : (t : ℕ) → Tells (bitAt (owedTold net b .ends .word) t) (OwesEnd (netOf net) (stored net b) t)
+  pub start-count-is : HowMany (OwesStart (netOf net) (stored net b)) (netOf net .transitions) (owedTold net b .starts .count)
+  pub end-count-is : HowMany (OwesEnd (netOf net) (stored net b)) (netOf net .transitions) (owedTold net b .ends .count)
+  pub lowest-start-is : Lowest (OwesStart (netOf net) (stored net b)) (netOf net .transitions) wordBits
+      (owedTold net b .starts .lowest)
+  pub lowest-end-is : Lowest (OwesEnd (netOf net) (stored net b)) (netOf net .transitions) wordBits
+      (owedTold net b .ends .lowest)
+  pub standing-is : (s : Standing) × Stands (netOf net) (stored net b) s × (owedTold net b .standing ≡ numberOfStanding s)
+
+pub record Demand2 (net b : List ℕ) : Type 0 where
+  pub degrees : (t : ℕ) → DegreeGiven net b t
+  pub owed : OwedGiven net b
+  pub event-by-event : (first second : ℕ) → EventDone net b first second
+  pub log-by-log : (log : List ℕ) → Passes (examineLog net b log) → LogRun net b log
+  pub in-portions : (one other whole : List ℕ)
+      → Passes (examineLog net b one) → Passes (examineLog net b other) → Passes (examineLog net b whole)
+      → logEvents whole ≡ logEvents one ++ logEvents other → runTold net b one .number ≡ 0 → InPortions net b one other whole
+
+-- DEMAND 3
+
+-- an event taken back from the state that stands in b
+pub record EventBack (net b : List ℕ) (first second : ℕ) : Type 0 where
+  -- that succeeds exactly if some lawful state leads here by that event
+  pub permitted : (backTold net b first second .number ≡ 0) ↔ SomeLeads (netOf net) (stored net b) (eventOf first second)
+  -- and that state is left, so there is never a second one
+  pub done : (S : State) → Lawful (netOf net) S → Moves (netOf net) S (eventOf first second) (stored net b)
+      → (backTold net b first second ≡ accepted) × Leaves net b (backLeft net b first second) S
+  -- each refusal is told exactly when document 01 says
+  pub refused : (why : Refusal) → (backTold net b first second ≡ verdict (numberOfRefusal why) 0)
+      ↔ Barred (netOf net) (stored net b) (eventOf first second) why
+  -- and then no byte changes
+  pub kept : ¬ (backTold net b first second .number ≡ 0) → backLeft net b first second ≡ b
+  -- an accepted event taken back gives every byte back, and one taken back and done again too
+  pub undone : eventTold net b first second .number ≡ 0
+      → (backTold net (eventLeft net b first second) first second .number ≡ 0)
+      × (backLeft net (eventLeft net b first second) first second ≡ b)
+  pub redone : backTold net b first second .number ≡ 0
+      → (eventTold net (backLeft net b first second) first second .number ≡ 0)
+      × (eventLeft net (backLeft net b first second) first second ≡ b)
+
+-- the last n events of a log taken back from the state that stands in b
+pub record LogBack (net b log : List ℕ) (n : ℕ) : Type 0 where
+  -- that succeeds exactly if the log has so many, and they lead here from some lawful state
+  pub permitted : (walkTold net b log n .number ≡ 0)
+      ↔ ((n ≤ length (logEvents log))
+      × ((S : State) × Lawful (netOf net) S × Leads (netOf net) S (lastOf n (logEvents log)) (stored net b)))
+  -- and that state is left
+  pub done : n ≤ length (logEvents log) → (S : State) → Lawful (netOf net) S
+      → Leads (netOf net) S (lastOf n (logEvents log)) (stored net b)
+      → (walkTold net b log n ≡ tells 0 (length (logEvents log) - n) n (ticksIn (lastOf n (logEvents log))))
+      × Leaves net b (walkLeft net b log n) S
+  -- what is told of any walk, accepted or refused, is exact, and the state where it stops is left
+  pub told : (S : State) × Walked (netOf net) (stored net b) (logEvents log) n (account (walkTold net b log n) S)
+      × Leaves net b (walkLeft net b log n) S
+  -- 22: more events are asked than the log has, and no byte changes
+  pub too-many : length (logEvents log) < n → (walkTold net b log n ≡ tells 22 0 0 0) × (walkLeft net b log n ≡ b)
+
+-- the last n events of an accepted log, taken back from where it led: that is accepted, and the very bytes are left that a run of the
+-- earlier events leaves, which is accepted too
+pub record Returns (net b log : List ℕ) (n : ℕ) : Type 0 where
+  pub told : walkTold net (runLeft net b log) log n
+      ≡ tells 0 (length (logEvents log) - n) n (ticksIn (lastOf n (logEvents log)))
+  pub left : (earlier : List ℕ) → Passes (examineLog net b earlier)
+      → logEvents earlier ≡ take (length (logEvents log) - n) (logEvents log)
+      → (runTold net b earlier .number ≡ 0) × (walkLeft net (runLeft net b log) log n ≡ runLeft net b earlier)
+  -- there is such a log
+  pub some-earlier : (earlier : List ℕ) × Passes (examineLog net b earlier)
+      × (logEvents earlier ≡ take (length (logEvents log) - n) (logEvents log))
+  -- the log taken back whole gives every byte back
+  pub all : n ≡ length (logEvents log) → walkLeft net (runLeft net b log) log n ≡ b
+
+pub record Demand3 (net b : List ℕ) : Type 0 where
+  pub event-by-event : (first second : ℕ) → EventBack net b first second
+  pub log-by-log : (log : List ℕ) → Passes (examineLog net b log) → (n : ℕ) → LogBack net b log n
+  pub returns : (log : List ℕ) → Passes (examineLog net b log) → runTold net b log .number ≡ 0
+      → (n : ℕ) → n ≤ length (logEvents log) → Returns net b log n
+
+-- THE INITIAL STATE of a net that got past the checks: its image is written over the front, where there is room
+pub record InitialGiven (net b : List ℕ) : Type 0 where
+  pub done : imageLength (netOf net) ≤ length b
+      → (initialTold net b ≡ accepted) × Began net b (initialLeft net b) × Passes (examineState net (initialLeft net b))
+  pub no-room : length b < imageLength (netOf net) → (initialTold net b ≡ verdict 7 0) × (initialLeft net b ≡ b)
+
+-- THE CHECKS. Here nothing need be known of the bytes
+
+-- what got past them: the calls that only check tell 0 of it, and the others tell 0 of nothing else
+pub record ToldPasses (net b : List ℕ) : Type 0 where
+  pub check-net : (netTold net .number ≡ 0) ↔ Passes (examineNet net)
+  pub check-state : (stateTold net b .number ≡ 0) ↔ Passes (examineState net b)
+  pub initial : initialTold net b .number ≡ 0 → Passes (examineNet net)
+  pub event : (first second : ℕ) → eventTold net b first second .number ≡ 0 → Passes (examineState net b)
+  pub back : (first second : ℕ) → backTold net b first second .number ≡ 0 → Passes (examineState net b)
+  pub degree : (t : ℕ) → degreeTold net b t .number ≡ 0 → Passes (examineState net b)
+  pub owed : owedTold net b .number ≡ 0 → Passes (examineState net b)
+  pub run : (log : List ℕ) → runTold net b log .number ≡ 0 → Passes (examineLog net b log)
+  pub walk : (log : List ℕ) (n : ℕ) → walkTold net b log n .number ≡ 0 → Passes (examineLog net b log)
+
+-- and what did not: a call that is refused before its first event tells the fault's number and index, and 0 in all else, and leaves
+-- every byte
+pub record ToldFault (net b : List ℕ) : Type 0 where
+  pub check-net : (why : Fault) → examineNet net ≡ examined.Unfit why → netTold net ≡ unfit why
+  pub check-state : (why : Fault) → examineState net b ≡ examined.Unfit why → stateTold net b ≡ unfit why
+  pub initial : (why : Fault) → examineNet net ≡ examined.Unfit why → (initialTold net b ≡ unfit why) × (initialLeft net b ≡ b)
+  pub event : (why : Fault) → examineState net b ≡ examined.Unfit why → (first second : ℕ)
+      → (eventTold net b first second ≡ unfit why) × (eventLeft net b first second ≡ b)
+  pub back : (why : Fault) → examineState net b ≡ examined.Unfit why → (first second : ℕ)
+      → (backTold net b first second ≡ unfit why) × (backLeft net b first second ≡ b)
+  pub degree : (why : Fault) → examineState net b ≡ examined.Unfit why → (t : ℕ) → degreeTold net b t ≡ noDegree why
+  pub owed : (why : Fault) → examineState net b ≡ examined.Unfit why → owedTold net b ≡ noReport why
+  pub run : (log : List ℕ) (why : Fault) → examineLog net b log ≡ examined.Unfit why
+      → (runTold net b log ≡ toldFault why) × (runLeft net b log ≡ b)
+  pub walk : (log : List ℕ) (why : Fault) → examineLog net b log ≡ examined.Unfit why → (n : ℕ)
+      → (walkTold net b log n ≡ toldFault why) × (walkLeft net b log n ≡ b)
+  pub step : (log : List ℕ) (why : Fault) → checkLog log ≡ checked.Bad why → (k : ℕ)
+      → stepTold log k ≡ tellsStep (numberOfFault why) 0 0
