@@ -1,7 +1,6 @@
 -- K1 to K12 of document 01 on bytes, together, by computation; and its other examples of calls.
 -- Assumes nothing.
-use mathlib.Core.Path.{_≡_, refl}
-use lib.ListN.{length}
+use mathlib.Core.Path.{refl}
 use Rattle.model.specs.Tab.{tab, all, largest, least, howMany, lowest, one}
 use Rattle.model.specs.Net.{width, tokens, count, build, initialState}
 use Rattle.model.specs.Rules.{enabled?, no-start-owed?, no-end-owed?, nothing-running?, timely?, has-room?, covers?, none-fresh?}
@@ -22,10 +21,9 @@ use Rattle.logs.specs.Steps.{startFrom, endFrom}
 use Rattle.engine.specs.Examined.{examineNet, examineState, examineLog}
 use Rattle.engine.specs.Calls.{netTold, stateTold, initialTold, initialLeft, eventTold, eventLeft, backTold, backLeft}
 use Rattle.engine.specs.Calls.{degreeTold, owedTold, runTold, runLeft, walkTold, walkLeft, stepTold}
-use Rattle.engine.specs.Cases.{AllHold, cases, Further}
+use Rattle.engine.specs.Cases.{AllHold, cases, CasesHold, Further}
 
--- there are twelve, K1 to K12, and each is answered as the table has it, to the byte
-pub cases-hold : (length cases ≡ 12) × AllHold cases
+pub cases-hold : CasesHold
 unfolding cases AllHold
     runTold runLeft eventTold eventLeft backTold backLeft owedTold examineNet examineState examineLog
     checkNet net-head? checkRow some-weight? checkState has-head? none-past? checkLog is-log? begins? checksInTurn
@@ -72,6 +70,16 @@ unfolding netTold stateTold initialTold initialLeft eventTold eventLeft backTold
     enabled? no-start-owed? no-end-owed? nothing-running? timely? has-room? covers? none-fresh?
     width tokens count build tab all largest least howMany lowest one
 further = record {
+  good-net = refl;
+  good-state = refl;
+  net-first = (refl, refl);
+  state-next = (refl, refl);
+  log-next = (refl, refl);
+  log-before-22 = (refl, refl);
+  empty-first = refl;
+  uncut = refl;
+  empty-last = refl;
+  step-of-no-log = refl;
   full-back = (refl, refl);
   step-0 = (refl, refl);
   step-1 = (refl, refl);
@@ -91,6 +99,7 @@ further = record {
   degree-1 = refl;
   degree-2 = refl;
   degree-none = refl;
+  degree-overdue = refl;
   start-owed = refl;
   end-owed = refl;
   owed-none = refl;

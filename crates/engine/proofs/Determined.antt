@@ -7,7 +7,7 @@ use contract.Lifetimes.{Lfts}
 use denote.Ref.{now, ptr}
 use denote.Triple.Clauses.{AtExit}
 use borrow.Fn.Kinds.{Dens, resT, endedOf}
-use Rattle.model.proofs.Determined.{Determined, Leaves}
+use Rattle.model.proofs.Determined.{Determined, LeavesOne}
 use Rattle.engine.proofs.answers.Verdict.of.Reads as verdict-of
 use Rattle.engine.proofs.answers.Verdict.of.Kinds as verdict-of-kinds
 use Rattle.engine.proofs.answers.Verdict.unfit.Reads as verdict-unfit
@@ -90,19 +90,19 @@ check-state-determined κs args x y s s′ p q = p ∙ sym q
 pub initial-determined : Determined 2 initial-kinds.ps initial-kinds.r initial.Learnt
 initial-determined κs args x y s s′ p q = p .0 ∙ sym (q .0)
 
-pub initial-leaves : Leaves 2 initial-kinds.ps initial-kinds.r initial.Learnt (λ κs s. now (s .1 .0))
+pub initial-leaves : LeavesOne 2 initial-kinds.ps initial-kinds.r initial.Learnt (λ κs s. now (s .1 .0))
 initial-leaves κs args x y s s′ p q = p .1 ∙ sym (q .1)
 
 pub event-determined : Determined 2 event-kinds.ps event-kinds.r event.Learnt
 event-determined κs args x y s s′ p q = p .0 ∙ sym (q .0)
 
-pub event-leaves : Leaves 2 event-kinds.ps event-kinds.r event.Learnt (λ κs s. now (s .1 .0))
+pub event-leaves : LeavesOne 2 event-kinds.ps event-kinds.r event.Learnt (λ κs s. now (s .1 .0))
 event-leaves κs args x y s s′ p q = p .1 ∙ sym (q .1)
 
 pub back-determined : Determined 2 back-kinds.ps back-kinds.r back.Learnt
 back-determined κs args x y s s′ p q = p .0 ∙ sym (q .0)
 
-pub back-leaves : Leaves 2 back-kinds.ps back-kinds.r back.Learnt (λ κs s. now (s .1 .0))
+pub back-leaves : LeavesOne 2 back-kinds.ps back-kinds.r back.Learnt (λ κs s. now (s .1 .0))
 back-leaves κs args x y s s′ p q = p .1 ∙ sym (q .1)
 
 pub degree-determined : Determined 2 degree-kinds.ps degree-kinds.r degree.Learnt
@@ -114,13 +114,13 @@ owed-determined κs args x y s s′ p q = p ∙ sym q
 pub run-determined : Determined 3 run-kinds.ps run-kinds.r run.Learnt
 run-determined κs args x y s s′ p q = p .0 ∙ sym (q .0)
 
-pub run-leaves : Leaves 3 run-kinds.ps run-kinds.r run.Learnt (λ κs s. now (s .1 .0))
+pub run-leaves : LeavesOne 3 run-kinds.ps run-kinds.r run.Learnt (λ κs s. now (s .1 .0))
 run-leaves κs args x y s s′ p q = p .1 ∙ sym (q .1)
 
 pub walk-determined : Determined 3 walk-kinds.ps walk-kinds.r walk.Learnt
 walk-determined κs args x y s s′ p q = p .0 ∙ sym (q .0)
 
-pub walk-leaves : Leaves 3 walk-kinds.ps walk-kinds.r walk.Learnt (λ κs s. now (s .1 .0))
+pub walk-leaves : LeavesOne 3 walk-kinds.ps walk-kinds.r walk.Learnt (λ κs s. now (s .1 .0))
 walk-leaves κs args x y s s′ p q = p .1 ∙ sym (q .1)
 
 pub step-told-determined : Determined 1 step-told-kinds.ps step-told-kinds.r step-told.Learnt

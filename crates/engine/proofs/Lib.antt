@@ -6,4 +6,5 @@ pub mod PastChecks
 pub mod Demands
 pub mod Checks
 pub mod Faults
+pub mod OnBytes
 pub mod Determined

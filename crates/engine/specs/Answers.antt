@@ -1,4 +1,4 @@
--- What the calls tell of what stands below them: document 01's number and index, and 0 in all else where a call is refused.
+-- What a call tells: document 01's number and index, and what belongs to it, which is 0 where the call is refused.
 -- Assumes nothing.
 use mathlib.Core.Bool.{cond}
 use Prim.Native.Nat.{ℕ, _+_, _-_}

@@ -4,15 +4,11 @@
 use mathlib.Core.Path.{_≡_}
 use mathlib.Core.List.{List, [], _∷_, _++_}
 use Prim.Native.Nat.{ℕ}
-use lib.ListN.{replicate, take, drop}
+use lib.ListN.{length, set, replicate, take, drop}
 use Rattle.forms.specs.Cases.{rowNet, rowState, rowLog}
-use Rattle.forms.specs.Word.{byte}
-use Rattle.owed.specs.Reported.{setOf}
 use Rattle.runs.specs.declared.told.Told.{Told}
-use Rattle.engine.specs.declared.answers.OwedTold.{OwedTold}
 use Rattle.engine.specs.declared.answers.StepTold.{StepTold}
-use Rattle.engine.specs.Answers.{verdict, tellsDegree, tellsStep}
-use Rattle.engine.specs.Demands.{tells}
+use Rattle.engine.specs.Said.{says, saysRun, saysDegree, setSays, saysOwed, saysStep}
 use Rattle.engine.specs.Calls.{netTold, stateTold, initialTold, initialLeft, eventTold, eventLeft, backTold, backLeft}
 use Rattle.engine.specs.Calls.{degreeTold, owedTold, runTold, runLeft, walkTold, walkLeft, stepTold}
 
@@ -30,9 +26,9 @@ abbrev pub Holds : Case → Type 0
 Holds (runs state log told left standing) =
     (runTold rowNet state log ≡ told) × (runLeft rowNet state log ≡ left) × (owedTold rowNet left .standing ≡ standing)
 Holds (does state first second number left) =
-    (eventTold rowNet state first second ≡ verdict number 0) × (eventLeft rowNet state first second ≡ left)
+    (eventTold rowNet state first second ≡ says number 0) × (eventLeft rowNet state first second ≡ left)
 Holds (undoes state first second number left) =
-    (backTold rowNet state first second ≡ verdict number 0) × (backLeft rowNet state first second ≡ left)
+    (backTold rowNet state first second ≡ says number 0) × (backLeft rowNet state first second ≡ left)
 
 -- every case of a table holds
 unfoldable pub AllHold : List Case → Type 0
@@ -43,8 +39,8 @@ AllHold (c ∷ cs) = Holds c × AllHold cs
 
 -- a state of the children's row net: its head, the markings of the three places, and the counts of either transition at ages 0 to 3.
 -- Each of these numbers has two bytes
-abbrev stands : List ℕ → List ℕ → List ℕ → List ℕ
-stands marks counts₀ counts₁ = (0x01 ∷ 0x00 ∷ 0x00 ∷ 0x00 ∷ 0x1E ∷ 0x03 ∷ 0x02 ∷ 0x04 ∷ []) ++ marks ++ counts₀ ++ counts₁
+abbrev rowStateWith : List ℕ → List ℕ → List ℕ → List ℕ
+rowStateWith marks counts₀ counts₁ = (0x01 ∷ 0x00 ∷ 0x00 ∷ 0x00 ∷ 0x1E ∷ 0x03 ∷ 0x02 ∷ 0x04 ∷ []) ++ marks ++ counts₀ ++ counts₁
 
 abbrev marks : ℕ → ℕ → ℕ → ℕ → ℕ → ℕ → List ℕ
 marks a b c d e f = a ∷ b ∷ c ∷ d ∷ e ∷ f ∷ []
@@ -70,11 +66,11 @@ atAge3 = counts 0x00 0x00 0x00 0x00 0x00 0x00 0x00 0x01
 
 -- where K1 ends: marking 0, 0, 1, all counts 0
 abbrev filled : List ℕ
-filled = stands (marks 0x00 0x00 0x00 0x00 0x00 0x01) noCounts noCounts
+filled = rowStateWith (marks 0x00 0x00 0x00 0x00 0x00 0x01) noCounts noCounts
 
 -- place 1 holds the number of two bytes, and transition 0 has one count at age 1
 abbrev loaded : ℕ → ℕ → List ℕ
-loaded high low = stands (marks 0x00 0x00 high low 0x00 0x00) atAge1 noCounts
+loaded high low = rowStateWith (marks 0x00 0x00 high low 0x00 0x00) atAge1 noCounts
 
 -- a log of so many bytes
 abbrev log : ℕ → List ℕ → List ℕ
@@ -89,35 +85,30 @@ behind = 0xC0 ∷ 0xFF ∷ 0xEE ∷ []
 -- K1 to K12, in order
 unfoldable pub cases : List Case
 cases =
-    runs rowState rowLog (tells 0 5 5 1) filled 4
-    ∷ runs rowState (log 0x07 (0x00 ∷ 0x00 ∷ [])) (tells 18 0 0 0) rowState 1
+    runs rowState rowLog (saysRun 0 5 5 1) filled 4
+    ∷ runs rowState (log 0x07 (0x00 ∷ 0x00 ∷ [])) (saysRun 18 0 0 0) rowState 1
     -- the buffer is longer than the state
-    ∷ runs (rowState ++ behind) (log 0x0D (0x01 ∷ 0x00 ∷ 0x00 ∷ 0x00 ∷ 0x00 ∷ 0x00 ∷ 0x00 ∷ 0x00 ∷ [])) (tells 0 4 4 3)
-    (stands noMarks atAge3 noCounts ++ behind) 2
-    ∷ runs rowState (log 0x0F (0x01 ∷ 0x00 ∷ 0x00 ∷ 0x00 ∷ 0x00 ∷ 0x00 ∷ 0x00 ∷ 0x00 ∷ 0x00 ∷ 0x00 ∷ [])) (tells 19 4 4 3)
-    (stands noMarks atAge3 noCounts) 2
-    ∷ runs rowState (log 0x09 (0x01 ∷ 0x00 ∷ 0x41 ∷ 0x00 ∷ [])) (tells 15 1 1 0) (stands noMarks atAge0 noCounts) 3
-    ∷ runs rowState (log 0x0B (0x01 ∷ 0x00 ∷ 0x00 ∷ 0x00 ∷ 0x41 ∷ 0x02 ∷ [])) (tells 16 2 2 1) (stands noMarks atAge1 noCounts) 3
-    ∷ runs rowState (log 0x0D (0x01 ∷ 0x00 ∷ 0x00 ∷ 0x00 ∷ 0x41 ∷ 0x01 ∷ 0x00 ∷ 0x00 ∷ [])) (tells 18 3 3 1)
-    (stands (marks 0x00 0x00 0x00 0x01 0x00 0x00) noCounts noCounts) 1
-    ∷ runs rowState (log 0x11 (0x01 ∷ 0x00 ∷ 0x00 ∷ 0x00 ∷ 0x41 ∷ 0x01 ∷ 0x02 ∷ 0x00 ∷ 0x42 ∷ 0x00 ∷ 0x00 ∷ 0x00 ∷ [])) (tells 20 5 5 1)
+    ∷ runs (rowState ++ behind) (log 0x0D (0x01 ∷ 0x00 ∷ 0x00 ∷ 0x00 ∷ 0x00 ∷ 0x00 ∷ 0x00 ∷ 0x00 ∷ [])) (saysRun 0 4 4 3)
+    (rowStateWith noMarks atAge3 noCounts ++ behind) 2
+    ∷ runs rowState (log 0x0F (0x01 ∷ 0x00 ∷ 0x00 ∷ 0x00 ∷ 0x00 ∷ 0x00 ∷ 0x00 ∷ 0x00 ∷ 0x00 ∷ 0x00 ∷ [])) (saysRun 19 4 4 3)
+    (rowStateWith noMarks atAge3 noCounts) 2
+    ∷ runs rowState (log 0x09 (0x01 ∷ 0x00 ∷ 0x41 ∷ 0x00 ∷ [])) (saysRun 15 1 1 0) (rowStateWith noMarks atAge0 noCounts) 3
+    ∷ runs rowState (log 0x0B (0x01 ∷ 0x00 ∷ 0x00 ∷ 0x00 ∷ 0x41 ∷ 0x02 ∷ [])) (saysRun 16 2 2 1) (rowStateWith noMarks atAge1 noCounts) 3
+    ∷ runs rowState (log 0x0D (0x01 ∷ 0x00 ∷ 0x00 ∷ 0x00 ∷ 0x41 ∷ 0x01 ∷ 0x00 ∷ 0x00 ∷ [])) (saysRun 18 3 3 1)
+    (rowStateWith (marks 0x00 0x00 0x00 0x01 0x00 0x00) noCounts noCounts) 1
+    ∷ runs rowState (log 0x11 (0x01 ∷ 0x00 ∷ 0x00 ∷ 0x00 ∷ 0x41 ∷ 0x01 ∷ 0x02 ∷ 0x00 ∷ 0x42 ∷ 0x00 ∷ 0x00 ∷ 0x00 ∷ [])) (saysRun 20 5 5 1)
     filled 4
-    ∷ undoes filled 0x42 0x00 0 (stands noMarks noCounts atAge0)
+    ∷ undoes filled 0x42 0x00 0 (rowStateWith noMarks noCounts atAge0)
     ∷ undoes rowState 0x00 0x00 21 rowState
-    ∷ does (loaded 0xFF 0xFE) 0x41 0x01 0 (stands (marks 0x00 0x00 0xFF 0xFF 0x00 0x00) noCounts noCounts)
+    ∷ does (loaded 0xFF 0xFE) 0x41 0x01 0 (rowStateWith (marks 0x00 0x00 0xFF 0xFF 0x00 0x00) noCounts noCounts)
     ∷ does (loaded 0xFF 0xFF) 0x41 0x01 17 (loaded 0xFF 0xFF)
     ∷ []
 
--- DOCUMENT 01'S OTHER EXAMPLES, and a few more of the calls that the table does not show
+-- there are twelve, and each is answered so
+abbrev pub CasesHold : Type 0
+CasesHold = (length cases ≡ 12) × AllHold cases
 
-abbrev owes : ℕ → ℕ → List ℕ → ℕ → OwedTold
-owes number index sets standing = record {
-  number = number;
-  index = index;
-  starts = setOf (byte sets 0) (byte sets 1) (byte sets 2);
-  ends = setOf (byte sets 3) (byte sets 4) (byte sets 5);
-  standing = standing;
-}
+-- DOCUMENT 01'S OTHER EXAMPLES, and a few more of the calls that the table does not show
 
 -- the part of the log that is told of
 abbrev partOf : StepTold → List ℕ
@@ -125,44 +116,69 @@ partOf told = take (told .length) (drop (told .start) rowLog)
 
 -- transition 1, whose lfd is 0, has a count at age 1: 9, and the transition
 abbrev overdue : List ℕ
-overdue = stands noMarks noCounts atAge1
+overdue = rowStateWith noMarks noCounts atAge1
 
 -- place 0 holds 65,535, and transition 0 has one count at age 0
 abbrev full : List ℕ
-full = stands (marks 0xFF 0xFF 0x00 0x00 0x00 0x00) atAge0 noCounts
+full = rowStateWith (marks 0xFF 0xFF 0x00 0x00 0x00 0x00) atAge0 noCounts
+
+-- a net whose transition 1 has lfd 64, and a log of version 2
+abbrev longNet : List ℕ
+longNet = set rowNet 22 64
+
+abbrev newLog : List ℕ
+newLog = set rowLog 0 2
+
+-- a tick, a pair 0, 1, a tick
+abbrev cutLog : List ℕ
+cutLog = log 0x0B (0x00 ∷ 0x00 ∷ 0x00 ∷ 0x01 ∷ 0x00 ∷ 0x00 ∷ [])
 
 pub record Further : Type 0 where
+  -- the children's row net and its state are good
+  pub good-net : netTold rowNet ≡ says 0 0
+  pub good-state : stateTold rowNet rowState ≡ says 0 0
+  -- of several faults the first is told: of the net, and then of the state, and then of the log, and then 22
+  pub net-first : (runTold longNet [] [] ≡ saysRun 4 1 0 0) × (walkTold longNet [] [] 1 ≡ saysRun 4 1 0 0)
+  pub state-next : (runTold rowNet overdue [] ≡ saysRun 9 1 0 0) × (runLeft rowNet overdue [] ≡ overdue)
+  pub log-next : (runTold rowNet rowState newLog ≡ saysRun 10 0 0 0) × (runLeft rowNet rowState newLog ≡ rowState)
+  pub log-before-22 : (walkTold rowNet filled newLog 6 ≡ saysRun 10 0 0 0) × (walkLeft rowNet filled newLog 6 ≡ filled)
+  -- steps with no events, each at its own place; only the pair 0, 0 cuts
+  pub empty-first : stepTold cutLog 0 ≡ saysStep 0 0 5 0
+  pub uncut : stepTold cutLog 1 ≡ saysStep 0 0 7 2
+  pub empty-last : stepTold cutLog 2 ≡ saysStep 0 0 11 0
+  pub step-of-no-log : stepTold newLog 0 ≡ saysStep 10 0 0 0
   -- start 0 taken back with place 0 at 65,535 and one count at age 0: 21
-  pub full-back : (backTold rowNet full 0x01 0x00 ≡ verdict 21 0) × (backLeft rowNet full 0x01 0x00 ≡ full)
+  pub full-back : (backTold rowNet full 0x01 0x00 ≡ says 21 0) × (backLeft rowNet full 0x01 0x00 ≡ full)
   -- step 0 of the log is 01 00; step 1 is 41 01 02 00 42 00; step 2 is refused by 23
-  pub step-0 : (stepTold rowLog 0 ≡ tellsStep 0 5 2) × (partOf (stepTold rowLog 0) ≡ 0x01 ∷ 0x00 ∷ [])
-  pub step-1 : (stepTold rowLog 1 ≡ tellsStep 0 9 6) × (partOf (stepTold rowLog 1) ≡ 0x41 ∷ 0x01 ∷ 0x02 ∷ 0x00 ∷ 0x42 ∷ 0x00 ∷ [])
-  pub step-2 : (stepTold rowLog 2 ≡ tellsStep 23 0 0) × (partOf (stepTold rowLog 2) ≡ [])
+  pub step-0 : (stepTold rowLog 0 ≡ saysStep 0 0 5 2) × (partOf (stepTold rowLog 0) ≡ 0x01 ∷ 0x00 ∷ [])
+  pub step-1 : (stepTold rowLog 1 ≡ saysStep 0 0 9 6) × (partOf (stepTold rowLog 1) ≡ 0x41 ∷ 0x01 ∷ 0x02 ∷ 0x00 ∷ 0x42 ∷ 0x00 ∷ [])
+  pub step-2 : (stepTold rowLog 2 ≡ saysStep 23 0 0 0) × (partOf (stepTold rowLog 2) ≡ [])
   -- lengths 0 and 6 as a net: 1
-  pub no-net : netTold [] ≡ verdict 1 0
-  pub short-net : netTold (0x01 ∷ 0x00 ∷ 0x00 ∷ 0x00 ∷ 0x06 ∷ 0x01 ∷ []) ≡ verdict 1 0
+  pub no-net : netTold [] ≡ says 1 0
+  pub short-net : netTold (0x01 ∷ 0x00 ∷ 0x00 ∷ 0x00 ∷ 0x06 ∷ 0x01 ∷ []) ≡ says 1 0
   -- a log of 5 bytes, length field 5: accepted, no events
-  pub no-events : (runTold rowNet rowState (log 0x05 []) ≡ tells 0 0 0 0) × (runLeft rowNet rowState (log 0x05 []) ≡ rowState)
+  pub no-events : (runTold rowNet rowState (log 0x05 []) ≡ saysRun 0 0 0 0) × (runLeft rowNet rowState (log 0x05 []) ≡ rowState)
   -- the initial state, over whatever the buffer held; and in a buffer one byte short
-  pub initial : (initialTold rowNet (replicate 30 0xAA ++ behind) ≡ verdict 0 0)
+  pub initial : (initialTold rowNet (replicate 30 0xAA ++ behind) ≡ says 0 0)
       × (initialLeft rowNet (replicate 30 0xAA ++ behind) ≡ rowState ++ behind)
-  pub no-room : (initialTold rowNet (replicate 29 0xAA) ≡ verdict 7 0) × (initialLeft rowNet (replicate 29 0xAA) ≡ replicate 29 0xAA)
+  pub no-room : (initialTold rowNet (replicate 29 0xAA) ≡ says 7 0) × (initialLeft rowNet (replicate 29 0xAA) ≡ replicate 29 0xAA)
   -- K1's log walked back whole, over its last two events, and over more than it has
-  pub whole-back : (walkTold rowNet filled rowLog 5 ≡ tells 0 0 5 1) × (walkLeft rowNet filled rowLog 5 ≡ rowState)
-  pub two-back : (walkTold rowNet filled rowLog 2 ≡ tells 0 3 2 0)
-      × (walkLeft rowNet filled rowLog 2 ≡ stands (marks 0x00 0x00 0x00 0x01 0x00 0x00) noCounts noCounts)
-  pub six-back : (walkTold rowNet filled rowLog 6 ≡ tells 22 0 0 0) × (walkLeft rowNet filled rowLog 6 ≡ filled)
+  pub whole-back : (walkTold rowNet filled rowLog 5 ≡ saysRun 0 0 5 1) × (walkLeft rowNet filled rowLog 5 ≡ rowState)
+  pub two-back : (walkTold rowNet filled rowLog 2 ≡ saysRun 0 3 2 0)
+      × (walkLeft rowNet filled rowLog 2 ≡ rowStateWith (marks 0x00 0x00 0x00 0x01 0x00 0x00) noCounts noCounts)
+  pub six-back : (walkTold rowNet filled rowLog 6 ≡ saysRun 22 0 0 0) × (walkLeft rowNet filled rowLog 6 ≡ filled)
   -- a walk that stops: the last event cannot have led to the initial state
-  pub none-back : (walkTold rowNet rowState rowLog 5 ≡ tells 21 4 0 0) × (walkLeft rowNet rowState rowLog 5 ≡ rowState)
+  pub none-back : (walkTold rowNet rowState rowLog 5 ≡ saysRun 21 4 0 0) × (walkLeft rowNet rowState rowLog 5 ≡ rowState)
   -- a state with a count above its transition's lfd
-  pub overdue-state : stateTold rowNet overdue ≡ verdict 9 1
-  pub overdue-event : (eventTold rowNet overdue 0x00 0x00 ≡ verdict 9 1) × (eventLeft rowNet overdue 0x00 0x00 ≡ overdue)
+  pub overdue-state : stateTold rowNet overdue ≡ says 9 1
+  pub overdue-event : (eventTold rowNet overdue 0x00 0x00 ≡ says 9 1) × (eventLeft rowNet overdue 0x00 0x00 ≡ overdue)
   -- the degrees in the initial state, of a third transition, and in no state
-  pub degree-0 : degreeTold rowNet rowState 0 ≡ tellsDegree 0 0 1
-  pub degree-1 : degreeTold rowNet rowState 1 ≡ tellsDegree 0 0 0
-  pub degree-2 : degreeTold rowNet rowState 2 ≡ tellsDegree 12 0 0
-  pub degree-none : degreeTold rowNet [] 2 ≡ tellsDegree 8 0 0
+  pub degree-0 : degreeTold rowNet rowState 0 ≡ saysDegree 0 0 1
+  pub degree-1 : degreeTold rowNet rowState 1 ≡ saysDegree 0 0 0
+  pub degree-2 : degreeTold rowNet rowState 2 ≡ saysDegree 12 0 0
+  pub degree-none : degreeTold rowNet [] 2 ≡ saysDegree 8 0 0
+  pub degree-overdue : degreeTold rowNet overdue 2 ≡ saysDegree 9 1 0
   -- what is owed: the start of transition 0; the end of transition 1; and in no state
-  pub start-owed : owedTold rowNet rowState ≡ owes 0 0 (1 ∷ 1 ∷ 0 ∷ 0 ∷ 0 ∷ 64 ∷ []) 1
-  pub end-owed : owedTold rowNet (stands noMarks noCounts atAge0) ≡ owes 0 0 (0 ∷ 0 ∷ 64 ∷ 2 ∷ 1 ∷ 1 ∷ []) 2
-  pub owed-none : owedTold rowNet overdue ≡ owes 9 1 (0 ∷ 0 ∷ 0 ∷ 0 ∷ 0 ∷ 0 ∷ []) 0
+  pub start-owed : owedTold rowNet rowState ≡ saysOwed 0 0 (setSays 1 1 0) (setSays 0 0 64) 1
+  pub end-owed : owedTold rowNet (rowStateWith noMarks noCounts atAge0) ≡ saysOwed 0 0 (setSays 0 0 64) (setSays 2 1 1) 2
+  pub owed-none : owedTold rowNet overdue ≡ saysOwed 9 1 (setSays 0 0 0) (setSays 0 0 0) 0

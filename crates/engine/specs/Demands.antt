@@ -21,7 +21,7 @@ use Rattle.model.specs.Owed.{OwesStart, OwesEnd, HowMany, wordBits, Lowest, Sta
 use Rattle.model.specs.Demands.{SomeLeads}
 use Rattle.forms.specs.declared.fault.Fault.{Fault}
 use Rattle.forms.specs.declared.fault.Checked.the-variants as checked
-use Rattle.forms.specs.Checked.{numberOfFault}
+use Rattle.forms.specs.Checked.{numberOfFault, indexOfFault}
 use Rattle.forms.specs.Word.{Bytes, byte}
 use Rattle.forms.specs.Places.{imageLength}
 use Rattle.forms.specs.Stored.{netOf, stored, logEvents}
@@ -30,11 +30,10 @@ use Rattle.forms.specs.Logs.{checkLog}
 use Rattle.forms.specs.Frame.{Began}
 use Rattle.owed.specs.Bits.{bitAt}
 use Rattle.runs.specs.declared.told.Told.{Told}
-use Rattle.runs.specs.Runs.{toldFault}
 use Rattle.engine.specs.declared.examine.Examined.{Examined}
 use Rattle.engine.specs.declared.examine.Examined.the-variants as examined
 use Rattle.engine.specs.Examined.{examineNet, examineState, examineLog}
-use Rattle.engine.specs.Answers.{verdict, accepted, unfit, tellsDegree, noDegree, noReport, tellsStep}
+use Rattle.engine.specs.Said.{says, saysRun, saysDegree, setSays, saysOwed, saysStep}
 use Rattle.engine.specs.Calls.{netTold, stateTold, initialTold, initialLeft, eventTold, eventLeft, backTold, backLeft}
 use Rattle.engine.specs.Calls.{degreeTold, owedTold, runTold, runLeft, walkTold, walkLeft, stepTold}
 
@@ -42,11 +41,7 @@ use Rattle.engine.specs.Calls.{degreeTold, owedTold, runTold, runLeft, w
 abbrev pub Passes : Examined → Type 0
 Passes e = (shape : Shape) × (e ≡ examined.Fit shape)
 
--- the four numbers told
-abbrev pub tells : ℕ → ℕ → ℕ → ℕ → Told
-tells number index done ticks = record { number = number; index = index; done = done; ticks = ticks }
-
--- the four numbers told, and a state, as the model's account of a run or a walk
+-- the four numbers that are told, and a state, as the model's account of a run or a walk
 abbrev pub account : Told → State → Account
 account r S = record { number = r .number; index = r .index; done = r .done; ticks = r .ticks; state = S }
 
@@ -70,9 +65,9 @@ pub record EventDone (net b : List ℕ) (first second : ℕ) : Type 0 where
       ↔ ((S′ : State) × Moves (netOf net) (stored net b) (eventOf first second) S′)
   -- and the state that the rules give is left
   pub done : (S′ : State) → Moves (netOf net) (stored net b) (eventOf first second) S′
-      → (eventTold net b first second ≡ accepted) × Leaves net b (eventLeft net b first second) S′
+      → (eventTold net b first second ≡ says 0 0) × Leaves net b (eventLeft net b first second) S′
   -- each refusal is told exactly when document 01 says
-  pub refused : (why : Refusal) → (eventTold net b first second ≡ verdict (numberOfRefusal why) 0)
+  pub refused : (why : Refusal) → (eventTold net b first second ≡ says (numberOfRefusal why) 0)
       ↔ Refuses (netOf net) (stored net b) (eventOf first second) why
   -- and a refused event changes no byte
   pub kept : ¬ (eventTold net b first second .number ≡ 0) → eventLeft net b first second ≡ b
@@ -83,7 +78,7 @@ pub record LogRun (net b log : List ℕ) : Type 0 where
   pub permitted : (runTold net b log .number ≡ 0) ↔ ((S′ : State) × Leads (netOf net) (stored net b) (logEvents log) S′)
   -- and then all its events and ticks are told, and the state that they lead to is left
   pub done : (S′ : State) → Leads (netOf net) (stored net b) (logEvents log) S′
-      → (runTold net b log ≡ tells 0 (length (logEvents log)) (length (logEvents log)) (ticksIn (logEvents log)))
+      → (runTold net b log ≡ saysRun 0 (length (logEvents log)) (length (logEvents log)) (ticksIn (logEvents log)))
       × Leaves net b (runLeft net b log) S′
   -- what is told of any log, accepted or refused, is exact, and the state just before the refused event is left
   pub told : (S′ : State) × Ran (netOf net) (stored net b) (logEvents log) (account (runTold net b log) S′)
@@ -99,8 +94,8 @@ pub record InPortions (net b one other whole : List ℕ) : Type 0 where
 
 -- the degree of a transition, Definition 4; 12 where the net has no such transition
 pub record DegreeGiven (net b : List ℕ) (t : ℕ) : Type 0 where
-  pub known : t < netOf net .transitions → (n : ℕ) → (degreeTold net b t ≡ tellsDegree 0 0 n) ↔ Degree (netOf net) (stored net b) t n
-  pub unknown : ¬ (t < netOf net .transitions) → degreeTold net b t ≡ tellsDegree 12 0 0
+  pub known : t < netOf net .transitions → (n : ℕ) → (degreeTold net b t ≡ saysDegree 0 0 n) ↔ Degree (netOf net) (stored net b) t n
+  pub unknown : ¬ (t < netOf net .transitions) → degreeTold net b t ≡ saysDegree 12 0 0
 
 -- the owed report: the bits of each word, how many are set, the lowest; and the standing
 pub record OwedGiven (net b : List ℕ) : Type 0 where
@@ -133,9 +128,9 @@ pub record EventBack (net b : List ℕ) (first second : ℕ) : Type 0 where
   pub permitted : (backTold net b first second .number ≡ 0) ↔ SomeLeads (netOf net) (stored net b) (eventOf first second)
   -- and that state is left, so there is never a second one
   pub done : (S : State) → Lawful (netOf net) S → Moves (netOf net) S (eventOf first second) (stored net b)
-      → (backTold net b first second ≡ accepted) × Leaves net b (backLeft net b first second) S
+      → (backTold net b first second ≡ says 0 0) × Leaves net b (backLeft net b first second) S
   -- each refusal is told exactly when document 01 says
-  pub refused : (why : Refusal) → (backTold net b first second ≡ verdict (numberOfRefusal why) 0)
+  pub refused : (why : Refusal) → (backTold net b first second ≡ says (numberOfRefusal why) 0)
       ↔ Barred (netOf net) (stored net b) (eventOf first second) why
   -- and then no byte changes
   pub kept : ¬ (backTold net b first second .number ≡ 0) → backLeft net b first second ≡ b
@@ -156,19 +151,19 @@ pub record LogBack (net b log : List ℕ) (n : ℕ) : Type 0 where
   -- and that state is left
   pub done : n ≤ length (logEvents log) → (S : State) → Lawful (netOf net) S
       → Leads (netOf net) S (lastOf n (logEvents log)) (stored net b)
-      → (walkTold net b log n ≡ tells 0 (length (logEvents log) - n) n (ticksIn (lastOf n (logEvents log))))
+      → (walkTold net b log n ≡ saysRun 0 (length (logEvents log) - n) n (ticksIn (lastOf n (logEvents log))))
       × Leaves net b (walkLeft net b log n) S
   -- what is told of any walk, accepted or refused, is exact, and the state where it stops is left
   pub told : (S : State) × Walked (netOf net) (stored net b) (logEvents log) n (account (walkTold net b log n) S)
       × Leaves net b (walkLeft net b log n) S
   -- 22: more events are asked than the log has, and no byte changes
-  pub too-many : length (logEvents log) < n → (walkTold net b log n ≡ tells 22 0 0 0) × (walkLeft net b log n ≡ b)
+  pub too-many : length (logEvents log) < n → (walkTold net b log n ≡ saysRun 22 0 0 0) × (walkLeft net b log n ≡ b)
 
 -- the last n events of an accepted log, taken back from where it led: that is accepted, and the very bytes are left that a run of the
 -- earlier events leaves, which is accepted too
 pub record Returns (net b log : List ℕ) (n : ℕ) : Type 0 where
   pub told : walkTold net (runLeft net b log) log n
-      ≡ tells 0 (length (logEvents log) - n) n (ticksIn (lastOf n (logEvents log)))
+      ≡ saysRun 0 (length (logEvents log) - n) n (ticksIn (lastOf n (logEvents log)))
   pub left : (earlier : List ℕ) → Passes (examineLog net b earlier)
       → logEvents earlier ≡ take (length (logEvents log) - n) (logEvents log)
       → (runTold net b earlier .number ≡ 0) × (walkLeft net (runLeft net b log) log n ≡ runLeft net b earlier)
@@ -187,8 +182,8 @@ pub record Demand3 (net b : List ℕ) : Type 0 where
 -- THE INITIAL STATE of a net that got past the checks: its image is written over the front, where there is room
 pub record InitialGiven (net b : List ℕ) : Type 0 where
   pub done : imageLength (netOf net) ≤ length b
-      → (initialTold net b ≡ accepted) × Began net b (initialLeft net b) × Passes (examineState net (initialLeft net b))
-  pub no-room : length b < imageLength (netOf net) → (initialTold net b ≡ verdict 7 0) × (initialLeft net b ≡ b)
+      → (initialTold net b ≡ says 0 0) × Began net b (initialLeft net b) × Passes (examineState net (initialLeft net b))
+  pub no-room : length b < imageLength (netOf net) → (initialTold net b ≡ says 7 0) × (initialLeft net b ≡ b)
 
 -- THE CHECKS. Here nothing need be known of the bytes
 
@@ -207,18 +202,19 @@ pub record ToldPasses (net b : List ℕ) : Type 0 where
 -- and what did not: a call that is refused before its first event tells the fault's number and index, and 0 in all else, and leaves
 -- every byte
 pub record ToldFault (net b : List ℕ) : Type 0 where
-  pub check-net : (why : Fault) → examineNet net ≡ examined.Unfit why → netTold net ≡ unfit why
-  pub check-state : (why : Fault) → examineState net b ≡ examined.Unfit why → stateTold net b ≡ unfit why
-  pub initial : (why : Fault) → examineNet net ≡ examined.Unfit why → (initialTold net b ≡ unfit why) × (initialLeft net b ≡ b)
+  pub check-net : (why : Fault) → examineNet net ≡ examined.Unfit why → netTold net ≡ says (numberOfFault why) (indexOfFault why)
+  pub check-state : (why : Fault) → examineState net b ≡ examined.Unfit why → stateTold net b ≡ says (numberOfFault why) (indexOfFault why)
+  pub initial : (why : Fault) → examineNet net ≡ examined.Unfit why → (initialTold net b ≡ says (numberOfFault why) (indexOfFault why)) × (initialLeft net b ≡ b)
   pub event : (why : Fault) → examineState net b ≡ examined.Unfit why → (first second : ℕ)
-      → (eventTold net b first second ≡ unfit why) × (eventLeft net b first second ≡ b)
+      → (eventTold net b first second ≡ says (numberOfFault why) (indexOfFault why)) × (eventLeft net b first second ≡ b)
   pub back : (why : Fault) → examineState net b ≡ examined.Unfit why → (first second : ℕ)
-      → (backTold net b first second ≡ unfit why) × (backLeft net b first second ≡ b)
-  pub degree : (why : Fault) → examineState net b ≡ examined.Unfit why → (t : ℕ) → degreeTold net b t ≡ noDegree why
-  pub owed : (why : Fault) → examineState net b ≡ examined.Unfit why → owedTold net b ≡ noReport why
+      → (backTold net b first second ≡ says (numberOfFault why) (indexOfFault why)) × (backLeft net b first second ≡ b)
+  pub degree : (why : Fault) → examineState net b ≡ examined.Unfit why → (t : ℕ) → degreeTold net b t ≡ saysDegree (numberOfFault why) (indexOfFault why) 0
+  pub owed : (why : Fault) → examineState net b ≡ examined.Unfit why
+      → owedTold net b ≡ saysOwed (numberOfFault why) (indexOfFault why) (setSays 0 0 0) (setSays 0 0 0) 0
   pub run : (log : List ℕ) (why : Fault) → examineLog net b log ≡ examined.Unfit why
-      → (runTold net b log ≡ toldFault why) × (runLeft net b log ≡ b)
+      → (runTold net b log ≡ saysRun (numberOfFault why) (indexOfFault why) 0 0) × (runLeft net b log ≡ b)
   pub walk : (log : List ℕ) (why : Fault) → examineLog net b log ≡ examined.Unfit why → (n : ℕ)
-      → (walkTold net b log n ≡ toldFault why) × (walkLeft net b log n ≡ b)
+      → (walkTold net b log n ≡ saysRun (numberOfFault why) (indexOfFault why) 0 0) × (walkLeft net b log n ≡ b)
   pub step : (log : List ℕ) (why : Fault) → checkLog log ≡ checked.Bad why → (k : ℕ)
-      → stepTold log k ≡ tellsStep (numberOfFault why) 0 0
+      → stepTold log k ≡ saysStep (numberOfFault why) 0 0 0

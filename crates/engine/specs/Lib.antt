@@ -1,7 +1,9 @@
 pub mod Examined
 pub mod Answers
 pub mod Calls
+pub mod Said
 pub mod Steps
-pub mod Faults
 pub mod Demands
+pub mod Faults
+pub mod OnBytes
 pub mod Cases

@@ -6,7 +6,7 @@ use mathlib.Core.Path.{_≡_, sym, _∙_}
 use denote.Ref.{now}
 use Rattle.model.specs.declared.net.Net.{Net as Shape}
 use Rattle.model.specs.Net.{Net}
-use Rattle.model.proofs.Determined.{Determined, Leaves}
+use Rattle.model.proofs.Determined.{Determined, LeavesOne}
 use Rattle.forms.specs.Frame.{HasShape}
 use Rattle.forms.proofs.words.wide.Reads as wide
 use Rattle.forms.proofs.words.wide.Kinds as wide-kinds
@@ -87,13 +87,13 @@ read32-determined κs args x y s s′ p q = p ∙ sym q
 pub blank-determined : Determined 1 blank-kinds.ps blank-kinds.r blank.Learnt
 blank-determined κs args x y s s′ p q = p ∙ sym q
 
-pub write16-leaves : Leaves 1 write16-kinds.ps write16-kinds.r write16.Learnt (λ κs s. now (s .0))
+pub write16-leaves : LeavesOne 1 write16-kinds.ps write16-kinds.r write16.Learnt (λ κs s. now (s .0))
 write16-leaves κs args x y s s′ p q = p ∙ sym q
 
-pub write32-leaves : Leaves 1 write32-kinds.ps write32-kinds.r write32.Learnt (λ κs s. now (s .0))
+pub write32-leaves : LeavesOne 1 write32-kinds.ps write32-kinds.r write32.Learnt (λ κs s. now (s .0))
 write32-leaves κs args x y s s′ p q = p ∙ sym q
 
-pub clear-leaves : Leaves 1 clear-kinds.ps clear-kinds.r clear.Learnt (λ κs s. now (s .0))
+pub clear-leaves : LeavesOne 1 clear-kinds.ps clear-kinds.r clear.Learnt (λ κs s. now (s .0))
 clear-leaves κs args x y s s′ p q = p ∙ sym q
 
 pub begins-determined : Determined 1 begins-kinds.ps begins-kinds.r begins.Learnt
@@ -162,5 +162,5 @@ check-log-determined κs args x y s s′ p q = p ∙ sym q
 pub initial-determined : Determined 2 initial-kinds.ps initial-kinds.r initial.Learnt
 initial-determined κs args x y s s′ p q = p .0 ∙ sym (q .0)
 
-pub initial-leaves : Leaves 2 initial-kinds.ps initial-kinds.r initial.Learnt (λ κs s. now (s .1 .1 .0))
+pub initial-leaves : LeavesOne 2 initial-kinds.ps initial-kinds.r initial.Learnt (λ κs s. now (s .1 .1 .0))
 initial-leaves κs args x y s s′ p q = p .1 ∙ sym (q .1)

@@ -37,8 +37,8 @@ Determined n ps r promise =
     → promise κs args x s → promise κs args y s′ → x ≡ y
 
 -- and one content at exit of the buffer that stands there among what is lent
-abbrev pub Leaves : (n : ℕ) (ps : List (PK n)) (r : RK n) → Out n ps r → ((κs : Lfts n) → AtExit (endedOf n ps r) κs → List ℕ) → Type 0
-Leaves n ps r promise buffer =
+abbrev pub LeavesOne : (n : ℕ) (ps : List (PK n)) (r : RK n) → Out n ps r → ((κs : Lfts n) → AtExit (endedOf n ps r) κs → List ℕ) → Type 0
+LeavesOne n ps r promise buffer =
     (κs : Lfts n) (args : Dens κs ps) (x y : resT r κs .Denot) (s s′ : AtExit (endedOf n ps r) κs)
     → promise κs args x s → promise κs args y s′ → buffer κs s ≡ buffer κs s′
 

@@ -4,7 +4,7 @@
 -- Assumes nothing.
 use mathlib.Core.Path.{sym, _∙_}
 use denote.Ref.{now}
-use Rattle.model.proofs.Determined.{Determined, Leaves}
+use Rattle.model.proofs.Determined.{Determined, LeavesOne}
 use Rattle.moves.proofs.shift.shift_up.Reads as shift-up
 use Rattle.moves.proofs.shift.shift_up.Kinds as shift-up-kinds
 use Rattle.moves.proofs.shift.shift_down.Reads as shift-down
@@ -30,62 +30,62 @@ use Rattle.moves.proofs.event.apply.Kinds as apply-kinds
 use Rattle.moves.proofs.event.back.Reads as back
 use Rattle.moves.proofs.event.back.Kinds as back-kinds
 
-pub shift-up-leaves : Leaves 1 shift-up-kinds.ps shift-up-kinds.r shift-up.Learnt (λ κs s. now (s .0))
+pub shift-up-leaves : LeavesOne 1 shift-up-kinds.ps shift-up-kinds.r shift-up.Learnt (λ κs s. now (s .0))
 shift-up-leaves κs args x y s s′ p q = p ∙ sym q
 
-pub shift-down-leaves : Leaves 1 shift-down-kinds.ps shift-down-kinds.r shift-down.Learnt (λ κs s. now (s .0))
+pub shift-down-leaves : LeavesOne 1 shift-down-kinds.ps shift-down-kinds.r shift-down.Learnt (λ κs s. now (s .0))
 shift-down-leaves κs args x y s s′ p q = p ∙ sym q
 
-pub take-leaves : Leaves 2 take-kinds.ps take-kinds.r take.Learnt (λ κs s. now (s .1 .1 .0))
+pub take-leaves : LeavesOne 2 take-kinds.ps take-kinds.r take.Learnt (λ κs s. now (s .1 .1 .0))
 take-leaves κs args x y s s′ p q = p ∙ sym q
 
-pub give-leaves : Leaves 2 give-kinds.ps give-kinds.r give.Learnt (λ κs s. now (s .1 .1 .0))
+pub give-leaves : LeavesOne 2 give-kinds.ps give-kinds.r give.Learnt (λ κs s. now (s .1 .1 .0))
 give-leaves κs args x y s s′ p q = p ∙ sym q
 
 pub tick-determined : Determined 2 tick-kinds.ps tick-kinds.r tick.Learnt
 tick-determined κs args x y s s′ p q = p .0 ∙ sym (q .0)
 
-pub tick-leaves : Leaves 2 tick-kinds.ps tick-kinds.r tick.Learnt (λ κs s. now (s .1 .1 .0))
+pub tick-leaves : LeavesOne 2 tick-kinds.ps tick-kinds.r tick.Learnt (λ κs s. now (s .1 .1 .0))
 tick-leaves κs args x y s s′ p q = p .1 ∙ sym (q .1)
 
 pub untick-determined : Determined 2 untick-kinds.ps untick-kinds.r untick.Learnt
 untick-determined κs args x y s s′ p q = p .0 ∙ sym (q .0)
 
-pub untick-leaves : Leaves 2 untick-kinds.ps untick-kinds.r untick.Learnt (λ κs s. now (s .1 .1 .0))
+pub untick-leaves : LeavesOne 2 untick-kinds.ps untick-kinds.r untick.Learnt (λ κs s. now (s .1 .1 .0))
 untick-leaves κs args x y s s′ p q = p .1 ∙ sym (q .1)
 
 pub start-determined : Determined 2 start-kinds.ps start-kinds.r start.Learnt
 start-determined κs args x y s s′ p q = p .0 ∙ sym (q .0)
 
-pub start-leaves : Leaves 2 start-kinds.ps start-kinds.r start.Learnt (λ κs s. now (s .1 .1 .0))
+pub start-leaves : LeavesOne 2 start-kinds.ps start-kinds.r start.Learnt (λ κs s. now (s .1 .1 .0))
 start-leaves κs args x y s s′ p q = p .1 ∙ sym (q .1)
 
 pub unstart-determined : Determined 2 unstart-kinds.ps unstart-kinds.r unstart.Learnt
 unstart-determined κs args x y s s′ p q = p .0 ∙ sym (q .0)
 
-pub unstart-leaves : Leaves 2 unstart-kinds.ps unstart-kinds.r unstart.Learnt (λ κs s. now (s .1 .1 .0))
+pub unstart-leaves : LeavesOne 2 unstart-kinds.ps unstart-kinds.r unstart.Learnt (λ κs s. now (s .1 .1 .0))
 unstart-leaves κs args x y s s′ p q = p .1 ∙ sym (q .1)
 
 pub end-determined : Determined 2 end-kinds.ps end-kinds.r end.Learnt
 end-determined κs args x y s s′ p q = p .0 ∙ sym (q .0)
 
-pub end-leaves : Leaves 2 end-kinds.ps end-kinds.r end.Learnt (λ κs s. now (s .1 .1 .0))
+pub end-leaves : LeavesOne 2 end-kinds.ps end-kinds.r end.Learnt (λ κs s. now (s .1 .1 .0))
 end-leaves κs args x y s s′ p q = p .1 ∙ sym (q .1)
 
 pub unend-determined : Determined 2 unend-kinds.ps unend-kinds.r unend.Learnt
 unend-determined κs args x y s s′ p q = p .0 ∙ sym (q .0)
 
-pub unend-leaves : Leaves 2 unend-kinds.ps unend-kinds.r unend.Learnt (λ κs s. now (s .1 .1 .0))
+pub unend-leaves : LeavesOne 2 unend-kinds.ps unend-kinds.r unend.Learnt (λ κs s. now (s .1 .1 .0))
 unend-leaves κs args x y s s′ p q = p .1 ∙ sym (q .1)
 
 pub apply-determined : Determined 2 apply-kinds.ps apply-kinds.r apply.Learnt
 apply-determined κs args x y s s′ p q = p .0 ∙ sym (q .0)
 
-pub apply-leaves : Leaves 2 apply-kinds.ps apply-kinds.r apply.Learnt (λ κs s. now (s .1 .1 .0))
+pub apply-leaves : LeavesOne 2 apply-kinds.ps apply-kinds.r apply.Learnt (λ κs s. now (s .1 .1 .0))
 apply-leaves κs args x y s s′ p q = p .1 ∙ sym (q .1)
 
 pub back-determined : Determined 2 back-kinds.ps back-kinds.r back.Learnt
 back-determined κs args x y s s′ p q = p .0 ∙ sym (q .0)
 
-pub back-leaves : Leaves 2 back-kinds.ps back-kinds.r back.Learnt (λ κs s. now (s .1 .1 .0))
+pub back-leaves : LeavesOne 2 back-kinds.ps back-kinds.r back.Learnt (λ κs s. now (s .1 .1 .0))
 back-leaves κs args x y s s′ p q = p .1 ∙ sym (q .1)

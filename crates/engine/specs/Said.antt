@@ -1,0 +1,27 @@
+-- What a call tells, field by field, as the statements of Demands, Steps and Cases write it. The contracts do not use these.
+-- Assumes nothing.
+use Prim.Native.Nat.{ℕ}
+use Rattle.owed.specs.declared.report.OwedSet.{OwedSet}
+use Rattle.runs.specs.declared.told.Told.{Told}
+use Rattle.engine.specs.declared.answers.Verdict.{Verdict}
+use Rattle.engine.specs.declared.answers.DegreeTold.{DegreeTold}
+use Rattle.engine.specs.declared.answers.OwedTold.{OwedTold}
+use Rattle.engine.specs.declared.answers.StepTold.{StepTold}
+
+abbrev pub says : ℕ → ℕ → Verdict
+says number index = record { number = number; index = index }
+
+abbrev pub saysRun : ℕ → ℕ → ℕ → ℕ → Told
+saysRun number index done ticks = record { number = number; index = index; done = done; ticks = ticks }
+
+abbrev pub saysDegree : ℕ → ℕ → ℕ → DegreeTold
+saysDegree number index degree = record { number = number; index = index; degree = degree }
+
+abbrev pub setSays : ℕ → ℕ → ℕ → OwedSet
+setSays word count lowest = record { word = word; count = count; lowest = lowest }
+
+abbrev pub saysOwed : ℕ → ℕ → OwedSet → OwedSet → ℕ → OwedTold
+saysOwed number index starts ends standing = record { number = number; index = index; starts = starts; ends = ends; standing = standing }
+
+abbrev pub saysStep : ℕ → ℕ → ℕ → ℕ → StepTold
+saysStep number index start length = record { number = number; index = index; start = start; length = length }
