@@ -1,0 +1,522 @@
+#!/usr/bin/env python3
+"""A seeded stream of requests for `menuask`: lawful, nearly lawful, damaged, at every limit.
+
+usage: generate.py SEED COUNT [--bad-end]    writes COUNT requests, and with --bad-end a bad one last
+       generate.py SEED COUNT --census       counts the reference's answers instead, by number and call
+       generate.py --menurun SEED N DIR      writes N inputs of `menurun` as files of that folder
+"""
+
+import argparse
+import collections
+import os
+import random
+import sys
+
+import ask
+import material
+import reference
+import wire
+from reference import Net, Transition
+
+MANY = 2**32 - 1
+
+
+def far_beyond(rng, lawful):
+    """A number whose low bits are lawful, or the greatest."""
+    return rng.choice([MANY, MANY, lawful + 65_536, lawful + 2**31])
+
+
+# ---- scenarios: each makes one or a few requests, as (name, arguments)
+
+
+def stored(net):
+    return material.encode_net(net)
+
+
+def buffer_of(rng, net, state):
+    return material.room(rng, reference.state_image(net, state))
+
+
+def net_requests(rng):
+    data = stored(material.any_net(rng))
+    if rng.random() < 0.8:
+        data = material.damaged_net(rng, data)
+    yield "check_net", [data]
+
+
+def initial_requests(rng):
+    net = material.any_net(rng)
+    length = reference.state_length(net)
+    size = rng.choice([length, length, length - 1, length - 1, length + 1, length + rng.randint(1, 60), 0, 7, 8])
+    yield "initial", [stored(net), rng.randbytes(size)]
+
+
+def state_requests(rng):
+    net = material.any_net(rng)
+    buffer = buffer_of(rng, net, material.any_state(rng, net))
+    if rng.random() < 0.8:
+        buffer = material.damaged_state(rng, net, buffer)
+    yield "check_state", [stored(net), buffer]
+
+
+def event_requests(rng):
+    """Any event in any state."""
+    net = material.any_net(rng)
+    state = material.any_state(rng, net)
+    yield "event", [stored(net), buffer_of(rng, net, state), *material.any_pair(rng, net, state)]
+
+
+def limit_requests(rng):
+    """Events, forward and back, where a count or a marking meets its limit."""
+    net = material.any_net(rng)
+    name, make = rng.choice(
+        [
+            ("event", material.start_at_limit),
+            ("event", material.end_at_limit),
+            ("back", material.start_back_at_limit),
+            ("back", material.end_back_at_limit),
+        ]
+    )
+    state, pair = make(rng, net)
+    if rng.random() < 0.7:
+        yield name, [stored(net), buffer_of(rng, net, state), *pair]
+    elif name == "event":
+        yield "run", [stored(net), buffer_of(rng, net, state), material.encode_log([pair] * rng.randint(1, 3))]
+    else:
+        pairs = [pair] * rng.randint(1, 3)
+        yield "walk", [stored(net), buffer_of(rng, net, state), material.encode_log(pairs), len(pairs)]
+
+
+def tick_requests(rng):
+    """Ticks done in a quiet state, and taken back from a state that a tick may have left."""
+    net = material.any_net(rng)
+    if rng.random() < 0.5:
+        make = rng.choice([material.quiet_state, material.quiet_state, material.due_state])
+        yield "event", [stored(net), buffer_of(rng, net, make(rng, net)), 0, 0]
+    else:
+        yield "back", [stored(net), buffer_of(rng, net, material.just_ticked_state(rng, net)), 0, 0]
+
+
+def back_requests(rng):
+    """The last event of a run taken back, or another one."""
+    net = material.any_net(rng)
+    pairs, state = material.accepted_walk(rng, net, material.any_state(rng, net), rng.randint(1, 15))
+    if pairs and rng.random() < 0.6:
+        pair = pairs[-1]
+    else:
+        pair = rng.choice(material.candidate_pairs(rng, net))
+    yield "back", [stored(net), buffer_of(rng, net, state), *pair]
+
+
+def degree_requests(rng):
+    net = material.any_net(rng)
+    state = material.any_state(rng, net)
+    transitions = len(net.transitions)
+    t = rng.randrange(transitions)
+    if rng.random() < 0.35:
+        t = rng.choice([transitions - 1, transitions, transitions, 63, 64, 255, 256, far_beyond(rng, t)])
+    yield "degree", [stored(net), buffer_of(rng, net, state), t]
+
+
+def owed_requests(rng):
+    net = material.any_net(rng)
+    make = rng.choice([material.any_state, material.small_state, material.quiet_state, material.just_ticked_state])
+    yield "owed", [stored(net), buffer_of(rng, net, make(rng, net))]
+
+
+def tall_requests(rng):
+    """Nets of 64 transitions, of which a high one is enabled, due or running."""
+    net = material.tall_net(rng)
+    last = len(net.transitions) - 1
+    t = rng.choice([31, 32, last - 1, last, last, last, rng.randint(32, last)])
+    row = net.transitions[t]._replace(sfd=rng.randint(0, 2), lfd=2)
+    net = net._replace(transitions=net.transitions[:t] + (row,) + net.transitions[t + 1 :])
+    age = rng.randint(0, 2)
+    counts = material.with_counts(net, {(t, age): rng.choice([1, 2, 65_535])})
+    name = rng.choice(["owed", "owed", "event", "event", "back"])
+    pair = rng.choice([(0, 0), (0, 0), (1 + t, 0), (65 + t, age)])
+    quiet = material.quiet_state(rng, net).marking
+    marking = quiet if pair == (0, 0) else rng.choice([row.inputs, quiet])
+    buffer = buffer_of(rng, net, reference.State(marking, counts))
+    yield name, [stored(net), buffer] if name == "owed" else [stored(net), buffer, *pair]
+
+
+def run_requests(rng):
+    """A run that gets far: all of it accepted, or one event refused and more events behind it."""
+    net, begin, pairs, _ = material.journey(rng)
+    if rng.random() < 0.55:
+        pairs = material.stumbling_walk(rng, net, begin, pairs)
+    yield "run", [stored(net), buffer_of(rng, net, begin), material.encode_log(pairs)]
+
+
+def scattered_requests(rng):
+    """A run along permitted events of which a few are others, so that it may go on elsewhere."""
+    net, begin, pairs, _ = material.journey(rng)
+    pairs = [pair if rng.random() < 0.97 else rng.choice(material.candidate_pairs(rng, net)) for pair in pairs]
+    yield "run", [stored(net), buffer_of(rng, net, begin), material.encode_log(pairs)]
+
+
+def rest_requests(rng):
+    """A run to where nothing is permitted any more, and a tick behind it."""
+    net = material.mixed_net(rng)
+    begin = reference.initial_state(net)
+    pairs, _ = material.accepted_walk(rng, net, begin, 60)
+    yield "run", [stored(net), buffer_of(rng, net, begin), material.encode_log(pairs + [(0, 0)])]
+
+
+def walk_requests(rng):
+    """A walk back from the end of an accepted run."""
+    net, _, pairs, end = material.journey(rng)
+    count = len(pairs)
+    n = rng.choice([count, count, count, rng.randint(0, count), rng.randint(0, count), count + 1])
+    if rng.random() < 0.1:
+        n = far_beyond(rng, n)
+    yield "walk", [stored(net), buffer_of(rng, net, end), material.encode_log(pairs), n]
+
+
+def every_walk_requests(rng):
+    """Walks of all lengths back from the end of one short run."""
+    net = material.any_net(rng)
+    pairs, end = material.accepted_walk(rng, net, material.any_state(rng, net), rng.randint(1, 8))
+    for n in range(len(pairs) + 2):
+        yield "walk", [stored(net), buffer_of(rng, net, end), material.encode_log(pairs), n]
+
+
+def hindered_walk_requests(rng):
+    """A walk back that may be refused midway: another event in the log, or another state."""
+    net, _, pairs, end = material.journey(rng)
+    if rng.random() < 0.3:
+        pairs = [rng.choice(material.candidate_pairs(rng, net)) for _ in range(3)] + pairs
+    if pairs and rng.random() < 0.7:
+        pairs[rng.randrange(len(pairs))] = rng.choice(material.candidate_pairs(rng, net))
+    image = reference.state_image(net, end)
+    if rng.random() < 0.4:
+        at = rng.randrange(8, len(image))
+        image = material.replaced(image, {at: rng.choice([0, 1, 255])})
+    yield "walk", [stored(net), material.room(rng, image), material.encode_log(pairs), len(pairs)]
+
+
+def step_requests(rng):
+    """Every step of a log, and two beyond the last."""
+    net = material.any_net(rng)
+    pairs, _ = material.accepted_walk(rng, net, material.any_state(rng, net), rng.choice([0, 1, 3, 8, 20]))
+    for _ in range(rng.choice([0, 0, 1, 4])):
+        pair = rng.choice([(0, 0), (0, 0), (0, 1), (1, 0), (255, 0), (rng.randrange(256), rng.randrange(256))])
+        pairs.insert(rng.randint(0, len(pairs)), pair)
+    ticks = pairs.count((0, 0))
+    for k in range(ticks + 3):
+        yield "step", [material.encode_log(pairs), k]
+    if rng.random() < 0.2:
+        yield "step", [material.encode_log(pairs), rng.choice([256, far_beyond(rng, ticks)])]
+
+
+def damaged_step_requests(rng):
+    pairs = [rng.choice([(0, 0), (1, 0), (65, 1)]) for _ in range(rng.randint(0, 6))]
+    yield "step", [material.damaged_log(rng, material.encode_log(pairs)), rng.choice([0, 1, 2, 7])]
+
+
+DAMAGEABLE = (
+    initial_requests,
+    event_requests,
+    back_requests,
+    degree_requests,
+    owed_requests,
+    run_requests,
+    walk_requests,
+)
+
+
+def damaged(rng, name, arguments, share):
+    """The request with each of its slices damaged with that chance, and at least one."""
+    arguments = list(arguments)
+    parameters = wire.BY_NAME[name][1]
+    slices = [at for at, parameter in enumerate(parameters) if parameter in wire.CAPACITY]
+    chosen = {rng.choice(slices)} | {at for at in slices if rng.random() < share}
+    net = reference.read_net(arguments[0])
+    for at in sorted(chosen):
+        if parameters[at] == "net":
+            arguments[at] = material.damaged_net(rng, arguments[at])
+        elif parameters[at] == "log":
+            arguments[at] = material.damaged_log(rng, arguments[at])
+        elif name == "initial":
+            arguments[at] = arguments[at][:-1]
+        else:
+            arguments[at] = material.damaged_state(rng, net, arguments[at])
+    return name, arguments
+
+
+def twofold_requests(rng):
+    """Two faults at once of a run or a walk, so that the order of the numbers decides."""
+    net, _, pairs, end = material.journey(rng)
+    pairs = pairs[:20]
+    data, buffer, log, n = stored(net), buffer_of(rng, net, end), material.encode_log(pairs), 0
+    good = data, buffer, log
+    faults = rng.sample(["net", "state", "log", "n", "event"], 2)
+    if "event" in faults:
+        pairs = [material.refused_pair(rng, net, end)] + pairs
+        log, n = material.encode_log(pairs), len(pairs)
+    if "n" in faults:
+        n = len(pairs) + 1
+    while "net" in faults and reference.check_net(data)[0] == 0:
+        data = material.damaged_net(rng, good[0])
+    while "state" in faults and reference.check_state(good[0], buffer)[0] == 0:
+        buffer = material.damaged_state(rng, net, good[1])
+    while "log" in faults and reference.step(log, 0)[0] == 0:
+        log = material.damaged_log(rng, good[2])
+    if "n" in faults or rng.random() < 0.4:
+        yield "walk", [data, buffer, log, n]
+    else:
+        yield "run", [data, buffer, log]
+
+
+def damaged_requests(rng):
+    """One slice of a good request is damaged, at times several."""
+    for name, arguments in rng.choice(DAMAGEABLE)(rng):
+        yield damaged(rng, name, arguments, rng.choice([0, 0, 0.5, 1]))
+
+
+def flipped_requests(rng):
+    """One byte of one slice of a good request is another."""
+    for name, arguments in rng.choice(DAMAGEABLE)(rng):
+        at = rng.choice([at for at, p in enumerate(wire.BY_NAME[name][1]) if p in wire.CAPACITY])
+        arguments = list(arguments)
+        arguments[at] = material.flipped(rng, arguments[at])
+        yield name, arguments
+
+
+SCENARIOS = (
+    (net_requests, 9),
+    (initial_requests, 4),
+    (state_requests, 6),
+    (event_requests, 10),
+    (limit_requests, 10),
+    (tick_requests, 6),
+    (back_requests, 8),
+    (degree_requests, 4),
+    (owed_requests, 6),
+    (tall_requests, 5),
+    (run_requests, 13),
+    (scattered_requests, 3),
+    (rest_requests, 1),
+    (walk_requests, 7),
+    (every_walk_requests, 1),
+    (hindered_walk_requests, 6),
+    (step_requests, 1.5),
+    (damaged_step_requests, 1.5),
+    (twofold_requests, 4),
+    (damaged_requests, 8),
+    (flipped_requests, 10),
+)
+
+
+# ---- the longest requests, by turns
+
+
+def full_requests(rng, turn):
+    """One request on the longest net, each call in its turn."""
+    net = material.full_net(rng)
+    data = stored(net)
+    begin = reference.initial_state(net)
+    pairs, state = material.accepted_walk(rng, net, begin, rng.randint(20, 60))
+    image = reference.state_image(net, state)
+    log = material.encode_log(pairs)
+    return (
+        ("run", [data, reference.state_image(net, begin), log]),
+        ("check_net", [data]),
+        ("owed", [data, image]),
+        ("walk", [data, image, log, len(pairs)]),
+        ("initial", [data, rng.randbytes(len(image))]),
+        ("back", [data, image, *pairs[-1]] if pairs else [data, image, 0, 0]),
+        ("event", [data, image, *material.any_pair(rng, net, state)]),
+        ("check_state", [data, image]),
+        ("degree", [data, image, rng.choice([0, 62, 63, 64])]),
+        ("event", [data, reference.state_image(net, material.wild_state(rng, net)), 128, 63]),
+        ("initial", [data, rng.randbytes(len(image) - 1)]),
+        ("check_state", [data, material.damaged_state(rng, net, image)]),
+    )[turn % 12]
+
+
+def ever_running(rng):
+    """A net whose tokens go round for ever."""
+    ring = Transition(1, rng.randint(1, 3), (1, 0), (0, 1)), Transition(0, rng.randint(0, 2), (0, 1), (1, 0))
+    return Net((rng.randint(1, 3), 0), ring)
+
+
+def longest_requests(rng, turn):
+    """One request with the longest log or the largest slices, each in its turn."""
+    most = reference.MAX_EVENTS
+    net = ever_running(rng)
+    data = stored(net)
+    begin = reference.initial_state(net)
+    first = reference.state_image(net, begin)
+    turn %= 9
+    if turn == 6:
+        return "check_net", [material.with_length(data + bytes(16_384 - len(data)))]
+    if turn == 7:
+        return "check_state", [data, first + rng.randbytes(16_384 - len(first))]
+    if turn == 8:
+        return "step", [material.with_length(bytes([1]) + bytes(65_535)), 1]
+    pairs, state = material.accepted_walk(rng, net, begin, most + {1: 1, 3: -1}.get(turn, 0))
+    if turn == 3:
+        pairs.append(material.refused_pair(rng, net, state))
+    if turn == 4:
+        pairs[rng.randrange(most)] = (0, 1)
+    log = material.encode_log(pairs)
+    last = reference.state_image(net, state)
+    return (
+        ("run", [data, first, log]),
+        ("run", [data, first, log]),
+        ("walk", [data, last, log, most]),
+        ("run", [data, first, log]),
+        ("walk", [data, last, log, most]),
+        ("step", [log, rng.randint(0, pairs.count((0, 0)))]),
+    )[turn]
+
+
+LONGEST_EVERY = 1_000
+FULL_EVERY = 250
+
+
+def requests(seed, count):
+    """So many requests, as (name, arguments)."""
+    rng = random.Random(seed)
+    kinds, shares = zip(*SCENARIOS)
+    made = longest = full = 0
+    while made < count:
+        if made >= longest * LONGEST_EVERY + LONGEST_EVERY // 2:
+            batch = [longest_requests(rng, longest)]
+            longest += 1
+        elif made >= full * FULL_EVERY + FULL_EVERY // 2:
+            batch = [full_requests(rng, full)]
+            full += 1
+        else:
+            batch = rng.choices(kinds, shares)[0](rng)
+        for request in batch:
+            yield request
+            made += 1
+            if made == count:
+                return
+
+
+# ---- bad requests
+
+
+def bad_requests(rng):
+    """One bad request of each kind; a stream ends with it."""
+    name, arguments = next(requests(rng.randrange(MANY), 1))
+    good = wire.encode(name, *arguments)
+    net = stored(material.ring_net(rng))
+    number = wire.four_bytes
+    return [
+        b"\x00" + good[1:],
+        b"\x0b" + good[1:],
+        b"\xff",
+        good[:1],
+        good[: rng.randrange(1, len(good))],
+        good[:-1],
+        b"\x01" + number(len(net) + 1) + net,
+        b"\x01" + number(16_385) + bytes(16_385),
+        b"\x01" + number(MANY),
+        wire.encode("initial", net, bytes(16_385)),
+        wire.encode("step", bytes(65_537), 0),
+        wire.encode("event", net, b"", 256, 0),
+        wire.encode("event", net, b"", 0, 256),
+        wire.encode("back", net, b"", MANY, 0),
+        wire.encode("back", net, b"", 0, 65_536),
+        wire.encode("degree", net, b"", 0)[:-2],
+    ]
+
+
+# ---- inputs of menurun
+
+
+def menurun_input(rng):
+    """A net and a log behind it; some damaged, too short or too long."""
+    net = material.full_net(rng) if rng.random() < 0.02 else material.any_net(rng)
+    begin = reference.initial_state(net)
+    pairs, _ = material.accepted_walk(rng, net, begin, rng.choice([3, 12, 40, 110]))
+    if rng.random() < 0.4:
+        pairs = material.stumbling_walk(rng, net, begin, pairs)
+    data, log = stored(net), material.encode_log(pairs)
+    kind = rng.randrange(20)
+    if kind == 0:
+        return rng.choice([data, data[: rng.randrange(len(data))], data[: rng.randrange(8)], data[:-1]])
+    if kind == 1:
+        length = rng.choice([0, 4, 5, 6, 7, len(data) - 1, len(data) + 1, 8_455, 8_456, 65_536, MANY])
+        return data[:1] + wire.four_bytes(length) + data[5:] + log
+    if kind == 2:
+        return data + log + rng.randbytes(rng.choice([1, 2, 30]))
+    if kind == 3:
+        return material.damaged_net(rng, data) + log
+    if kind == 4:
+        return data + material.damaged_log(rng, log)
+    if kind == 5:
+        return material.flipped(rng, data + log)
+    if kind == 6:
+        return rng.choice([data, material.damaged_net(rng, data)]) + menurun_long_log(rng)
+    if kind == 7 and rng.random() < 0.2:
+        net = ever_running(rng)
+        pairs, _ = material.accepted_walk(rng, net, reference.initial_state(net), reference.MAX_EVENTS)
+        return stored(net) + material.encode_log(pairs)
+    return data + log
+
+
+def menurun_long_log(rng):
+    """A log of the greatest length, or longer."""
+    events = rng.choice([23_999, 24_000, 24_000, 24_001, 24_001, 60_000])
+    log = material.encode_log([rng.choice([(0, 0), (1, 0), (65, 0)])] * events)
+    return log + bytes(rng.choice([0, 0, 0, 1]))
+
+
+def write_menurun_inputs(seed, count, folder):
+    rng = random.Random(seed)
+    os.makedirs(folder, exist_ok=True)
+    for number in range(count):
+        with open(os.path.join(folder, f"{number:04}.in"), "wb") as file:
+            file.write(menurun_input(rng))
+
+
+# ---- the program
+
+
+def census(seed, count):
+    """How often each number is told, by call."""
+    names = [name for _, name, _ in wire.TABLE]
+    told = collections.Counter()
+    size = 0
+    for name, arguments in requests(seed, count):
+        told[int(ask.answer(name, arguments).split()[1]), name] += 1
+        size += len(wire.encode(name, *arguments))
+    print("number  " + "".join(f"{name:>12}" for name in names) + "       total")
+    for number in range(24):
+        row = [told[number, name] for name in names]
+        print(f"{number:6}  " + "".join(f"{value or '.':>12}" for value in row) + f"{sum(row):12}")
+    print(f"{count} requests, {size} bytes")
+
+
+def main():
+    parser = argparse.ArgumentParser(description="Makes requests of menuask or inputs of menurun.")
+    parser.add_argument("--menurun", nargs=3, metavar=("SEED", "N", "DIR"))
+    parser.add_argument("--bad-end", action="store_true")
+    parser.add_argument("--census", action="store_true")
+    parser.add_argument("seed", type=int, nargs="?")
+    parser.add_argument("count", type=int, nargs="?")
+    options = parser.parse_args()
+    if options.menurun:
+        seed, count, folder = options.menurun
+        write_menurun_inputs(int(seed), int(count), folder)
+        return
+    if options.seed is None or options.count is None:
+        parser.error("SEED and COUNT are needed")
+    if options.census:
+        census(options.seed, options.count)
+        return
+    for name, arguments in requests(options.seed, options.count):
+        sys.stdout.buffer.write(wire.encode(name, *arguments))
+    if options.bad_end:
+        rng = random.Random(options.seed)
+        sys.stdout.buffer.write(rng.choice(bad_requests(rng)))
+
+
+if __name__ == "__main__":
+    main()

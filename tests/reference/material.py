@@ -1,0 +1,562 @@
+"""Random nets, states, events and logs: lawful, at the limits, and damaged.
+
+Nets and states are made as the reference's own kinds and stored by the
+functions at the top; damage is done to the stored bytes.
+"""
+
+import reference
+from reference import MAX_TOKENS, Event, Net, Refused, State, Transition
+
+EDGE_FIRSTS = (0, 1, 64, 65, 128, 129, 255)
+EDGE_SECONDS = (0, 1, 255)
+
+
+# ---- stored forms
+
+
+def encode_net(net):
+    body = b"".join(tokens.to_bytes(2, "big") for tokens in net.marking)
+    for row in net.transitions:
+        body += bytes([row.sfd, row.lfd, *row.inputs, *row.outputs])
+    sizes = bytes([len(net.marking), len(net.transitions)])
+    return with_head(sizes + body)
+
+
+def encode_log(pairs):
+    return with_head(bytes(byte for pair in pairs for byte in pair))
+
+
+def with_head(body):
+    """The body behind a version byte and the length of the whole."""
+    return bytes([1]) + (5 + len(body)).to_bytes(4, "big") + body
+
+
+def with_length(data):
+    """The bytes with their length field set to their own length."""
+    return data[:1] + len(data).to_bytes(4, "big") + data[5:]
+
+
+# ---- nets
+
+
+def weights(rng, places, most, limit=2):
+    """A row of weights with one to `limit` places above 0."""
+    row = [0] * places
+    for p in rng.sample(range(places), rng.randint(1, min(limit, places))):
+        row[p] = rng.randint(1, most)
+    return tuple(row)
+
+
+def interval(rng, longest):
+    lfd = rng.randint(0, longest)
+    return rng.choice([0, lfd, rng.randint(0, lfd)]), lfd
+
+
+def sizes(rng):
+    return rng.randint(1, 5), rng.randint(1, 5)
+
+
+def mixed_net(rng):
+    places, transitions = sizes(rng)
+    most = rng.choice([1, 1, 2, 3])
+    rows = [
+        Transition(*interval(rng, 3), weights(rng, places, most), weights(rng, places, most))
+        for _ in range(transitions)
+    ]
+    return Net(tuple(rng.randint(0, 4) for _ in range(places)), tuple(rows))
+
+
+def moving_net(rng):
+    """Each transition moves a token on, so runs need not end."""
+    places, transitions = sizes(rng)
+    rows = []
+    for _ in range(transitions):
+        unit = [tuple(int(p == chosen) for p in range(places)) for chosen in rng.choices(range(places), k=2)]
+        rows.append(Transition(*interval(rng, 4), *unit))
+    return Net(tuple(rng.randint(0, 2) for _ in range(places)), tuple(rows))
+
+
+def ring_net(rng):
+    """Tokens go round, and at least one transition takes time."""
+    length = rng.randint(1, 4)
+    rows = []
+    for t in range(length):
+        here = tuple(int(p == t) for p in range(length))
+        there = tuple(int(p == (t + 1) % length) for p in range(length))
+        sfd, lfd = interval(rng, 3)
+        rows.append(Transition(*((1, max(1, lfd)) if t == 0 else (sfd, lfd)), here, there))
+    return Net(tuple([rng.randint(1, 3)] + [rng.randint(0, 1) for _ in range(length - 1)]), tuple(rows))
+
+
+def growing_net(rng):
+    """Outputs outweigh inputs, and the marking begins near its limit."""
+    places, transitions = rng.randint(1, 3), rng.randint(1, 3)
+    rows = [
+        Transition(*interval(rng, 2), weights(rng, places, 2), weights(rng, places, 255))
+        for _ in range(transitions)
+    ]
+    marking = [rng.choice([65_535, 65_534, 65_300, rng.randint(64_000, 65_535), 2]) for _ in range(places)]
+    return Net(tuple(marking), tuple(rows))
+
+
+def heavy_net(rng):
+    """Weights of 255 and about it, markings at multiples of them and about these."""
+    places, transitions = sizes(rng)
+
+    def row():
+        return tuple(rng.choice([0, 0, 1, 254, 255]) for _ in range(places))
+
+    rows = []
+    for _ in range(transitions):
+        inputs, outputs = (values if any(values) else (255,) * places for values in (row(), row()))
+        rows.append(Transition(*interval(rng, 2), inputs, outputs))
+    marking = [max(0, min(MAX_TOKENS, 255 * rng.choice([0, 1, 2, 257]) + rng.randint(-1, 1))) for _ in range(places)]
+    return Net(tuple(marking), tuple(rows))
+
+
+def instant_net(rng):
+    net = mixed_net(rng)
+    return net._replace(transitions=tuple(row._replace(sfd=0, lfd=0) for row in net.transitions))
+
+
+def fixed_net(rng):
+    net = moving_net(rng)
+    return net._replace(transitions=tuple(row._replace(sfd=row.lfd) for row in net.transitions))
+
+
+def slow_net(rng):
+    """Durations up to 63, so that D is up to 64."""
+    places, transitions = rng.randint(1, 3), rng.randint(1, 2)
+    rows = []
+    for _ in range(transitions):
+        lfd = rng.choice([63, 63, 62, rng.randint(10, 63)])
+        sfd = rng.choice([0, lfd, lfd - 1, rng.randint(0, lfd)])
+        rows.append(Transition(sfd, lfd, weights(rng, places, 1), weights(rng, places, 1)))
+    return Net(tuple(rng.randint(0, 2) for _ in range(places)), tuple(rows))
+
+
+def sparse_net(rng, places, transitions, longest):
+    rows = [
+        Transition(*interval(rng, longest), weights(rng, places, 3, 3), weights(rng, places, 3, 3))
+        for _ in range(transitions)
+    ]
+    return Net(tuple(rng.randint(0, 2) for _ in range(places)), tuple(rows))
+
+
+def wide_net(rng):
+    return sparse_net(rng, rng.choice([64, 64, 63]), rng.randint(1, 2), 2)
+
+
+def tall_net(rng):
+    return sparse_net(rng, rng.randint(1, 2), rng.choice([64, 64, 63]), rng.choice([0, 1]))
+
+
+def full_net(rng):
+    """The longest net: 64 places, 64 transitions, D = 64."""
+    net = sparse_net(rng, 64, 64, 63)
+    rows = list(net.transitions)
+    for t in rng.sample(range(64), 4):
+        rows[t] = rows[t]._replace(sfd=rng.choice([0, 62, 63]), lfd=63)
+    rows[0] = rows[0]._replace(sfd=63, lfd=63, inputs=(255,) * 64, outputs=(255,) * 64)
+    return Net(net.marking, tuple(rows))
+
+
+NET_KINDS = (
+    (mixed_net, 30),
+    (moving_net, 20),
+    (ring_net, 20),
+    (growing_net, 8),
+    (heavy_net, 8),
+    (instant_net, 4),
+    (fixed_net, 5),
+    (slow_net, 4),
+    (wide_net, 1.5),
+    (tall_net, 1.5),
+)
+
+
+def any_net(rng):
+    kinds, shares = zip(*NET_KINDS)
+    return rng.choices(kinds, shares)[0](rng)
+
+
+# ---- states
+
+
+def edge_value(rng):
+    return rng.choice([0, 1, 2, 65_534, 65_535, rng.randint(0, 255), rng.randint(0, MAX_TOKENS)])
+
+
+def with_counts(net, counts):
+    """Rows of counts, from (transition, age) to count."""
+    return tuple(
+        tuple(counts.get((t, age), 0) for age in range(net.depth)) for t in range(len(net.transitions))
+    )
+
+
+def some_counts(rng, net, value, spare_lfd=False):
+    """Counts of up to four pairs of a transition and a lawful age."""
+    counts = {}
+    for _ in range(rng.randint(0, 4)):
+        t = rng.randrange(len(net.transitions))
+        ages = net.transitions[t].lfd + (0 if spare_lfd else 1)
+        if ages > 0:
+            counts[t, rng.choice([0, ages - 1, rng.randrange(ages)])] = value()
+    return counts
+
+
+def small_state(rng, net):
+    marking = tuple(rng.randint(0, 4) for _ in net.marking)
+    return State(marking, with_counts(net, some_counts(rng, net, lambda: rng.randint(1, 3))))
+
+
+def wild_state(rng, net):
+    marking = tuple(edge_value(rng) for _ in net.marking)
+    return State(marking, with_counts(net, some_counts(rng, net, lambda: edge_value(rng))))
+
+
+def quiet_state(rng, net):
+    """Nothing is enabled and nothing due: at rest, or free to tick."""
+    marking = [rng.choice([0, 1, 3, edge_value(rng)]) for _ in net.marking]
+    for row in net.transitions:
+        if all(weight <= tokens for weight, tokens in zip(row.inputs, marking)):
+            p = rng.choice([p for p, weight in enumerate(row.inputs) if weight > 0])
+            marking[p] = rng.choice([0, row.inputs[p] - 1])
+    counts = {}
+    if rng.random() < 0.75:
+        counts = some_counts(rng, net, lambda: rng.choice([1, 2, edge_value(rng)]), spare_lfd=True)
+    return State(tuple(marking), with_counts(net, counts))
+
+
+def due_state(rng, net):
+    """Nothing is enabled, and some transition has a count at its lfd."""
+    t = rng.randrange(len(net.transitions))
+    counts = some_counts(rng, net, lambda: rng.choice([1, 2, edge_value(rng)]))
+    counts[t, net.transitions[t].lfd] = rng.choice([1, 2, 65_535])
+    return State(quiet_state(rng, net).marking, with_counts(net, counts))
+
+
+def just_ticked_state(rng, net):
+    """As a tick leaves it: as a rule every age 0 is empty and nothing is enabled."""
+    state = quiet_state(rng, net)
+    counts = some_counts(rng, net, lambda: rng.choice([1, 2, edge_value(rng)]))
+    if rng.random() < 0.85:
+        counts = {(t, age): count for (t, age), count in counts.items() if age > 0}
+    if rng.random() < 0.1:
+        state = small_state(rng, net)
+    return State(state.marking, with_counts(net, counts))
+
+
+def filled(rng, weights):
+    """A marking that the weights fill to the limit at one place, or that they pass there by one."""
+    marking = [min(edge_value(rng), MAX_TOKENS - weight) for weight in weights]
+    p = rng.choice([p for p, weight in enumerate(weights) if weight > 0])
+    marking[p] = MAX_TOKENS - weights[p] + rng.choice([0, 1])
+    return tuple(marking)
+
+
+def emptied(rng, weights):
+    """A marking from which the weights take all at one place, or one token more than there is."""
+    marking = [max(edge_value(rng), weight) for weight in weights]
+    p = rng.choice([p for p, weight in enumerate(weights) if weight > 0])
+    marking[p] = weights[p] - rng.choice([0, 1])
+    return tuple(marking)
+
+
+def start_at_limit(rng, net):
+    """A state with the count at age 0 near its limit, and the start that meets it."""
+    t = rng.randrange(len(net.transitions))
+    inputs = net.transitions[t].inputs
+    marking = emptied(rng, inputs) if rng.random() < 0.5 else tuple(3 * weight for weight in inputs)
+    counts = some_counts(rng, net, lambda: edge_value(rng))
+    counts[t, 0] = rng.choice([65_535, 65_535, 65_534])
+    return State(marking, with_counts(net, counts)), (1 + t, 0)
+
+
+def end_at_limit(rng, net):
+    """A state where an end fills a place to its limit or passes it, and that end."""
+    t = rng.randrange(len(net.transitions))
+    row = net.transitions[t]
+    age = rng.randint(row.sfd, row.lfd)
+    counts = some_counts(rng, net, lambda: edge_value(rng))
+    counts[t, age] = rng.choice([0, 1, 1, 2, 2, 65_535])
+    return State(filled(rng, row.outputs), with_counts(net, counts)), (65 + t, age)
+
+
+def start_back_at_limit(rng, net):
+    """A state where taking a start back fills a place to its limit or passes it."""
+    t = rng.randrange(len(net.transitions))
+    counts = some_counts(rng, net, lambda: edge_value(rng))
+    counts[t, 0] = rng.choice([0, 1, 1, 2, 65_534, 65_535])
+    return State(filled(rng, net.transitions[t].inputs), with_counts(net, counts)), (1 + t, 0)
+
+
+def end_back_at_limit(rng, net):
+    """A state where taking an end back meets an empty place or a full count."""
+    t = rng.randrange(len(net.transitions))
+    row = net.transitions[t]
+    age = rng.randint(row.sfd, row.lfd)
+    counts = some_counts(rng, net, lambda: edge_value(rng))
+    counts[t, age] = rng.choice([0, 0, 1, 65_534, 65_535])
+    return State(emptied(rng, row.outputs), with_counts(net, counts)), (65 + t, age)
+
+
+def reached_state(rng, net, steps):
+    return accepted_walk(rng, net, reference.initial_state(net), steps)[1]
+
+
+def any_state(rng, net):
+    kind = rng.randrange(8)
+    if kind == 0:
+        return reference.initial_state(net)
+    if kind <= 3:
+        return reached_state(rng, net, rng.randint(1, 30))
+    return (small_state, small_state, wild_state, quiet_state)[kind - 4](rng, net)
+
+
+# ---- events and logs
+
+
+def as_pair(event):
+    first = {reference.TICK: 0, reference.START: 1, reference.END: 65}[event.kind]
+    return first + event.transition, event.age
+
+
+def number_of(net, state, pair):
+    """The number that the event is told in this state."""
+    try:
+        reference.forward(net, state, reference.read_event(net, *pair))
+    except Refused as refused:
+        return refused.number
+    return 0
+
+
+def permitted(net, state):
+    """The permitted events, by kind."""
+    transitions = range(len(net.transitions))
+    starts = [Event(reference.START, t) for t in transitions]
+    ends = [
+        Event(reference.END, t, age)
+        for t in transitions
+        for age in range(net.transitions[t].sfd, net.transitions[t].lfd + 1)
+        if state.counts[t][age] > 0
+    ]
+    kinds = ([Event(reference.TICK)], starts, ends)
+    return [[as_pair(e) for e in events if number_of(net, state, as_pair(e)) == 0] for events in kinds]
+
+
+def permitted_pair(rng, net, state):
+    """A permitted event, or None."""
+    ticks, starts, ends = permitted(net, state)
+    if ticks and (not ends or rng.random() < 0.6):
+        return ticks[0]
+    kinds = [events for events in (starts, ends) if events]
+    return rng.choice(rng.choice(kinds)) if kinds else None
+
+
+def candidate_pairs(rng, net):
+    """Events of every kind, malformed ones and those at the edges of the ranges too."""
+    transitions = len(net.transitions)
+    chosen = range(transitions) if transitions <= 5 else rng.sample(range(transitions), 5)
+    pairs = [(0, 0)]
+    for t in chosen:
+        row = net.transitions[t]
+        ages = {0, row.sfd, row.lfd, row.lfd + 1, max(0, row.sfd - 1), rng.randint(0, row.lfd), 255}
+        pairs += [(1 + t, 0)] + [(65 + t, age) for age in sorted(ages)]
+    pairs += [(first, second) for first in EDGE_FIRSTS for second in EDGE_SECONDS]
+    pairs += [(min(64, transitions + 1), 0), (min(128, 65 + transitions), 0)]
+    pairs.append((rng.randrange(256), rng.randrange(256)))
+    return pairs
+
+
+def refused_pair(rng, net, state):
+    """A refused event, each number that this state can tell as likely as another."""
+    by_number = {}
+    for pair in candidate_pairs(rng, net):
+        by_number.setdefault(number_of(net, state, pair), []).append(pair)
+    number = rng.choice(sorted(number for number in by_number if number))
+    return rng.choice(by_number[number])
+
+
+def stumbling_walk(rng, net, state, pairs):
+    """An accepted walk with a refused event put in somewhere, each number that
+    can be told at a few places of it as likely as another."""
+    places = {0, len(pairs), *(rng.randint(0, len(pairs)) for _ in range(4))}
+    by_number = {}
+    for place in range(len(pairs) + 1):
+        if place in places:
+            for pair in candidate_pairs(rng, net):
+                by_number.setdefault(number_of(net, state, pair), []).append((place, pair))
+        if place < len(pairs):
+            state = reference.forward(net, state, reference.read_event(net, *pairs[place]))
+    number = rng.choice(sorted(number for number in by_number if number))
+    place, pair = rng.choice(by_number[number])
+    return pairs[:place] + [pair] + pairs[place : place + rng.choice([0, 1, len(pairs)])]
+
+
+def any_pair(rng, net, state):
+    pair = permitted_pair(rng, net, state) if rng.random() < 0.3 else None
+    return pair or refused_pair(rng, net, state)
+
+
+def accepted_walk(rng, net, state, length):
+    """Up to so many permitted events one after another, and the state after them."""
+    pairs = []
+    while len(pairs) < length:
+        pair = permitted_pair(rng, net, state)
+        if pair is None:
+            break
+        state = reference.forward(net, state, reference.read_event(net, *pair))
+        pairs.append(pair)
+    return pairs, state
+
+
+def journey(rng):
+    """A net, a state to begin at, accepted events from there, and the state after
+    them. A net whose runs end far too early is mostly put back for another."""
+    longest = rng.choice([3, 12, 40, 40, 110, 110, 110, 400])
+    length = rng.choice([longest, rng.randint(0, longest)])
+    for _ in range(4):
+        net = any_net(rng)
+        begin = reference.initial_state(net) if rng.random() < 0.7 else any_state(rng, net)
+        pairs, end = accepted_walk(rng, net, begin, length)
+        if len(pairs) > length // 2:
+            break
+    return net, begin, pairs, end
+
+
+# ---- damage
+
+
+def room(rng, image):
+    """The image at the front of a buffer, mostly with nothing behind it."""
+    behind = rng.choice([0, 0, 0, 0, 0, 0, 1, 2, rng.randint(1, 20), rng.randint(1, 120)])
+    return image + rng.randbytes(behind)
+
+
+def flipped(rng, data, below=None):
+    """One byte changed, somewhere or among the first ones."""
+    if not data:
+        return data
+    at = rng.randrange(min(len(data), below or len(data)))
+    value = rng.choice([0, 1, 255, data[at] ^ 1 << rng.randrange(8), (data[at] + 1) % 256, (data[at] - 1) % 256])
+    if value == data[at]:
+        value ^= 1
+    return data[:at] + bytes([value]) + data[at + 1 :]
+
+
+def cut_or_grown(rng, data):
+    """Some bytes fewer or more, the length field right or not."""
+    change = rng.choice([-1, -1, -2, 1, 1, 2, -rng.randint(1, 20), rng.randint(1, 20)])
+    data = data[:change] if change < 0 else data + rng.randbytes(change)
+    if len(data) >= 5 and rng.random() < 0.6:
+        data = with_length(data)
+    return data
+
+
+def very_short(rng, data, head):
+    """Fewer bytes than the head has, or just as many."""
+    data = data[: rng.choice([0, 0, 1, 4, 5, head - 1, head])]
+    return with_length(data) if len(data) >= 5 and rng.random() < 0.5 else data
+
+
+def replaced(data, changes):
+    data = bytearray(data)
+    for at, value in changes.items():
+        data[at] = value
+    return bytes(data)
+
+
+def net_with_sizes(rng, data):
+    """P or T outside 1..64 or not what the length is made for."""
+    at = rng.choice([5, 6])
+    value = rng.choice([0, 0, 65, 65, 255, 64, data[at] + 1, max(0, data[at] - 1)])
+    return replaced(data, {at: value})
+
+
+def missized_net(rng):
+    """P or T of 0 or 65, all else as it should be."""
+    places, transitions = rng.choice([(65, 1), (1, 65), (0, 2), (2, 0), (0, 0)])
+    rows = [Transition(0, 1, (1,) * places, (1,) * places)] * transitions
+    return encode_net(Net((0,) * places, tuple(rows)))
+
+
+def net_with_bad_rows(rng, data):
+    """One to three transitions with a bad interval or with no weights."""
+    places, transitions = data[5], data[6]
+    changes = {}
+    for _ in range(rng.choice([1, 1, 2, 3])):
+        row = 7 + 2 * places + rng.randrange(transitions) * (2 + 2 * places)
+        fault = rng.choice([0, 1, 2, 3, 3, 4])
+        if fault == 0:
+            changes[row], changes[row + 1] = rng.choice([(1, 0), (63, 62), (255, 3), (64, 63)])
+        elif fault == 1:
+            changes[row], changes[row + 1] = rng.choice([(0, 64), (64, 64), (3, 255), (0, 255)])
+        if fault in (2, 4):
+            changes.update({row + 2 + p: 0 for p in range(places)})
+        if fault in (3, 4):
+            changes.update({row + 2 + places + p: 0 for p in range(places)})
+    return replaced(data, changes)
+
+
+def damaged_net(rng, data):
+    kind = rng.randrange(9)
+    if kind <= 1:
+        return flipped(rng, data)
+    if kind == 2:
+        return flipped(rng, data, below=7)
+    if kind == 3:
+        return cut_or_grown(rng, data)
+    if kind == 4:
+        return very_short(rng, data, 7)
+    if kind == 5:
+        return missized_net(rng) if rng.random() < 0.3 else net_with_sizes(rng, data)
+    return net_with_bad_rows(rng, data)
+
+
+def count_above_lfd(rng, net, data):
+    """A lawful image with counts above the own lfd of one to three transitions, where D allows it."""
+    depth = net.depth
+    shorter = [t for t, row in enumerate(net.transitions) if row.lfd + 1 < depth]
+    if not shorter:
+        return flipped(rng, data, below=8)
+    changes = {}
+    for t in rng.sample(shorter, min(len(shorter), rng.choice([1, 2, 3]))):
+        age = rng.choice([net.transitions[t].lfd + 1, depth - 1])
+        at = 8 + 2 * len(net.marking) + 2 * (t * depth + age)
+        changes[at + rng.randrange(2)] = rng.choice([1, 255])
+    return replaced(data, changes)
+
+
+def damaged_state(rng, net, data):
+    """Damage to a buffer that begins with a lawful image."""
+    image = data[: reference.state_length(net)]
+    kind = rng.randrange(9)
+    if kind <= 1:
+        return flipped(rng, data)
+    if kind == 2:
+        return flipped(rng, data, below=8)
+    if kind == 3:
+        return image[:-1]
+    if kind == 4:
+        return cut_or_grown(rng, image)
+    if kind == 5:
+        return very_short(rng, image, 8)
+    return count_above_lfd(rng, net, data)
+
+
+def damaged_log(rng, data):
+    kind = rng.randrange(7)
+    if kind == 0:
+        return flipped(rng, data)
+    if kind == 1:
+        return flipped(rng, data, below=5)
+    if kind == 6:
+        return bytes([rng.choice([0, 2, 255])]) + data[1:]
+    if kind == 2:
+        return cut_or_grown(rng, data)
+    if kind == 3:
+        return very_short(rng, data, 5)
+    if kind == 4:
+        return with_length(data[:-1] if len(data) > 5 else data + b"\0")
+    return with_length(data + rng.randbytes(1))
