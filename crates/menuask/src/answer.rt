@@ -1,0 +1,220 @@
+// The line of each call: its name, the answer's fields, and for a call that may write, the whole buffer afterwards.
+use crate::request::Request;
+use engine::answers::Verdict;
+use engine::calls;
+use owed::report::OwedSet;
+use runs::told::Told;
+use text::line;
+ghost use Prim.Native.Nat.{_+_, _*_, _≤_};
+ghost use lib.ListN.{length};
+
+// A blank and a number.
+fn field(out: &mut [u8], at: usize, n: u64) -> usize
+    requires { ⌜ at + 21 ≤ length (now out) ⌝ }
+    ensures { λ r. ⌜ r ≤ at + 21 ⌝ }
+{
+    let from = line::put_byte(out, at, b' ');
+    line::put_decimal(out, from, n)
+}
+
+// A blank and a buffer in hex, or `-` for an empty one.
+fn buffer(out: &mut [u8], at: usize, state: &[u8]) -> usize
+    requires { ⌜ at + 2 + 2 * length (now state) ≤ length (now out) ⌝ }
+    ensures { λ r. ⌜ r ≤ at + 2 + 2 * length (now (state .entry)) ⌝ }
+{
+    let from = line::put_byte(out, at, b' ');
+    if state.len() == 0 {
+        return line::put_byte(out, from, b'-');
+    }
+    line::put_hex(out, from, state)
+}
+
+// A name, a number and an index.
+fn verdict(out: &mut [u8], name: &[u8], told: Verdict) -> usize
+    requires { ⌜ (length (now name) ≤ 16) × (100 ≤ length (now out)) ⌝ }
+    ensures { λ r. ⌜ r ≤ 58 ⌝ }
+{
+    let at = line::put_bytes(out, 0, name);
+    let number = field(out, at, told.number as u64);
+    field(out, number, told.index as u64)
+}
+
+// A name and what a run or a walk tells.
+fn course(out: &mut [u8], name: &[u8], told: Told) -> usize
+    requires { ⌜ (length (now name) ≤ 16) × (200 ≤ length (now out)) ⌝ }
+    ensures { λ r. ⌜ r ≤ 100 ⌝ }
+{
+    let at = line::put_bytes(out, 0, name);
+    let number = field(out, at, told.number as u64);
+    let index = field(out, number, told.index as u64);
+    let done = field(out, index, told.done as u64);
+    field(out, done, told.ticks as u64)
+}
+
+fn check_net(out: &mut [u8], net: &[u8]) -> usize
+    requires { ⌜ 40000 ≤ length (now out) ⌝ }
+    ensures { λ r. ⌜ r ≤ 39000 ⌝ }
+{
+    verdict(out, b"check_net", calls::check_net(net))
+}
+
+fn initial(out: &mut [u8], net: &[u8], state: &mut [u8]) -> usize
+    requires { ⌜ (40000 ≤ length (now out)) × (length (now state) ≤ 16384) ⌝ }
+    ensures { λ r. ⌜ r ≤ 39000 ⌝ }
+{
+    let told = calls::initial(net, state);
+    let at = verdict(out, b"initial", told);
+    buffer(out, at, state)
+}
+
+fn check_state(out: &mut [u8], net: &[u8], state: &[u8]) -> usize
+    requires { ⌜ 40000 ≤ length (now out) ⌝ }
+    ensures { λ r. ⌜ r ≤ 39000 ⌝ }
+{
+    verdict(out, b"check_state", calls::check_state(net, state))
+}
+
+fn event(out: &mut [u8], net: &[u8], state: &mut [u8], first: usize, second: usize) -> usize
+    requires { ⌜ (40000 ≤ length (now out)) × (length (now state) ≤ 16384) ⌝ }
+    ensures { λ r. ⌜ r ≤ 39000 ⌝ }
+{
+    let told = calls::event(net, state, (first % 256) as u8, (second % 256) as u8);
+    let at = verdict(out, b"event", told);
+    buffer(out, at, state)
+}
+
+fn back(out: &mut [u8], net: &[u8], state: &mut [u8], first: usize, second: usize) -> usize
+    requires { ⌜ (40000 ≤ length (now out)) × (length (now state) ≤ 16384) ⌝ }
+    ensures { λ r. ⌜ r ≤ 39000 ⌝ }
+{
+    let told = calls::back(net, state, (first % 256) as u8, (second % 256) as u8);
+    let at = verdict(out, b"back", told);
+    buffer(out, at, state)
+}
+
+fn degree(out: &mut [u8], net: &[u8], state: &[u8], t: usize) -> usize
+    requires { ⌜ 40000 ≤ length (now out) ⌝ }
+    ensures { λ r. ⌜ r ≤ 39000 ⌝ }
+{
+    let told = calls::degree(net, state, t);
+    let at = line::put_bytes(out, 0, b"degree");
+    let number = field(out, at, told.number as u64);
+    let index = field(out, number, told.index as u64);
+    field(out, index, told.degree as u64)
+}
+
+// Two numbers: of the enabled transitions, and of the due ones.
+fn pair(out: &mut [u8], at: usize, enabled: u64, due: u64) -> usize
+    requires { ⌜ at + 42 ≤ length (now out) ⌝ }
+    ensures { λ r. ⌜ r ≤ at + 42 ⌝ }
+{
+    let behind = field(out, at, enabled);
+    field(out, behind, due)
+}
+
+// The two words, the number of set bits of each, the lowest of each, and the standing.
+fn sets(out: &mut [u8], at: usize, starts: OwedSet, ends: OwedSet, standing: u8) -> usize
+    requires { ⌜ at + 147 ≤ length (now out) ⌝ }
+    ensures { λ r. ⌜ r ≤ at + 147 ⌝ }
+{
+    let words = pair(out, at, starts.word, ends.word);
+    let ones = pair(out, words, starts.count as u64, ends.count as u64);
+    let lowest = pair(out, ones, starts.lowest as u64, ends.lowest as u64);
+    field(out, lowest, standing as u64)
+}
+
+fn owed(out: &mut [u8], net: &[u8], state: &[u8]) -> usize
+    requires { ⌜ 40000 ≤ length (now out) ⌝ }
+    ensures { λ r. ⌜ r ≤ 39000 ⌝ }
+{
+    let told = calls::owed(net, state);
+    let at = line::put_bytes(out, 0, b"owed");
+    let number = field(out, at, told.number as u64);
+    let index = field(out, number, told.index as u64);
+    sets(out, index, told.starts, told.ends, told.standing)
+}
+
+fn run(out: &mut [u8], net: &[u8], state: &mut [u8], log: &[u8]) -> usize
+    requires { ⌜ (40000 ≤ length (now out)) × (length (now state) ≤ 16384) ⌝ }
+    ensures { λ r. ⌜ r ≤ 39000 ⌝ }
+{
+    let told = calls::run(net, state, log);
+    let at = course(out, b"run", told);
+    buffer(out, at, state)
+}
+
+fn walk(out: &mut [u8], net: &[u8], state: &mut [u8], log: &[u8], n: usize) -> usize
+    requires { ⌜ (40000 ≤ length (now out)) × (length (now state) ≤ 16384) ⌝ }
+    ensures { λ r. ⌜ r ≤ 39000 ⌝ }
+{
+    let told = calls::walk(net, state, log, n);
+    let at = course(out, b"walk", told);
+    buffer(out, at, state)
+}
+
+fn step(out: &mut [u8], log: &[u8], k: usize) -> usize
+    requires { ⌜ 40000 ≤ length (now out) ⌝ }
+    ensures { λ r. ⌜ r ≤ 39000 ⌝ }
+{
+    let told = calls::step_told(log, k);
+    let at = line::put_bytes(out, 0, b"step");
+    let number = field(out, at, told.number as u64);
+    let index = field(out, number, told.index as u64);
+    let start = field(out, index, told.start as u64);
+    field(out, start, told.length as u64)
+}
+
+// The answer to a request of a known kind, at the buffer's front.
+fn fields(
+    out: &mut [u8],
+    kind: u8,
+    first: usize,
+    second: usize,
+    net: &[u8],
+    state: &mut [u8],
+    log: &[u8],
+) -> usize
+    requires { ⌜ (40000 ≤ length (now out)) × (length (now state) ≤ 16384) ⌝ }
+    ensures { λ r. ⌜ r ≤ 39000 ⌝ }
+{
+    match kind {
+        1 => check_net(out, net),
+        2 => initial(out, net, state),
+        3 => check_state(out, net, state),
+        4 => event(out, net, state, first, second),
+        5 => back(out, net, state, first, second),
+        6 => degree(out, net, state, first),
+        7 => owed(out, net, state),
+        8 => run(out, net, state, log),
+        9 => walk(out, net, state, log, first),
+        _ => step(out, log, first),
+    }
+}
+
+// The line of a request whose slices stand at the front of their buffers.
+pub fn answer(
+    out: &mut [u8],
+    kind: u8,
+    request: Request,
+    net: &[u8],
+    state: &mut [u8],
+    log: &[u8],
+) -> usize
+    requires { ⌜ (40000 ≤ length (now out)) × (length (now state) ≤ 16384) ⌝ }
+    requires { ⌜ (request .net ≤ length (now net)) × (request .state ≤ length (now state)) × (request .log ≤ length (now log)) ⌝ }
+    ensures { λ r. ⌜ r ≤ length (now (out .exit)) ⌝ }
+{
+    let n = request.net;
+    let s = request.state;
+    let l = request.log;
+    let end = fields(
+        out,
+        kind,
+        request.first,
+        request.second,
+        &net[..n],
+        &mut state[..s],
+        &log[..l],
+    );
+    line::put_byte(out, end, b'\n')
+}

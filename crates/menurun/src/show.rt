@@ -1,0 +1,134 @@
+// What menurun prints, line by line. Lines are gathered in a buffer, which is written where it is nearly full, and at the end.
+use forms::places;
+use forms::words;
+use libc::STDOUT_FILENO;
+use model::age::Age;
+use model::net::Net;
+use replay::input::Replayed;
+use text::line;
+ghost use Prim.Native.Nat.{_+_, _*_, _<_, _≤_};
+ghost use lib.ListN.{length};
+ghost use Rattle.forms.specs.Places.{stateLength};
+ghost use Rattle.replay.specs.Replayed.{Shown};
+
+// A blank and a number.
+fn number(out: &mut [u8], at: usize, n: u64) -> usize
+    requires { ⌜ at + 21 ≤ length (now out) ⌝ }
+    ensures { λ r. ⌜ r ≤ at + 21 ⌝ }
+{
+    let from = line::put_byte(out, at, b' ');
+    line::put_decimal(out, from, n)
+}
+
+// The line of the result, at the buffer's front.
+pub fn result(out: &mut [u8], told: Replayed) -> usize
+    requires { ⌜ 200 ≤ length (now out) ⌝ }
+    ensures { λ r. ⌜ r ≤ 200 ⌝ }
+{
+    let name = line::put_bytes(out, 0, b"result");
+    let numbered = number(out, name, told.number as u64);
+    let indexed = number(out, numbered, told.index as u64);
+    let done = number(out, indexed, told.done as u64);
+    let ticked = number(out, done, told.ticks as u64);
+    let stood = number(out, ticked, told.standing as u64);
+    line::put_byte(out, stood, b'\n')
+}
+
+// The line of the markings, place by place.
+fn marks(out: &mut [u8], at: usize, state: &[u8], places: usize) -> usize
+    requires { ⌜ (at ≤ 200) × (10000 ≤ length (now out)) ⌝ }
+    requires { ⌜ (places < 256) × (8 + 2 * places ≤ length (now state)) ⌝ }
+    ensures { λ r. ⌜ r ≤ 10000 ⌝ }
+{
+    let mut end = line::put_bytes(out, at, b"marks");
+    let mut p = 0;
+    while p < places {
+        let tokens = words::read16(state, places::mark_at(p));
+        end = number(out, end, tokens as u64);
+        p += 1;
+    }
+    line::put_byte(out, end, b'\n')
+}
+
+// Where the next line begins: at the front, once what was gathered is written, where fewer than 100 bytes are left.
+fn room(out: &[u8], at: usize) -> usize
+    requires { ⌜ (at ≤ length (now out)) × (10000 ≤ length (now out)) ⌝ }
+    ensures { λ r. ⌜ r + 100 ≤ length (now (out .entry)) ⌝ }
+{
+    if 100 <= out.len() - at {
+        return at;
+    }
+    io::write_all(STDOUT_FILENO, &out[..at]);
+    0
+}
+
+// The line of a count.
+fn firings(out: &mut [u8], at: usize, t: usize, age: u8, count: usize) -> usize
+    requires { ⌜ at + 100 ≤ length (now out) ⌝ }
+    ensures { λ r. ⌜ r ≤ at + 100 ⌝ }
+{
+    let name = line::put_bytes(out, at, b"run");
+    let transition = number(out, name, t as u64);
+    let aged = number(out, transition, age as u64);
+    let counted = number(out, aged, count as u64);
+    line::put_byte(out, counted, b'\n')
+}
+
+// The line of a transition's count at an age, where it is above 0.
+fn cell(out: &mut [u8], at: usize, state: &[u8], shape: Net, t: usize, age: u8) -> usize
+    requires { ⌜ (at ≤ length (now out)) × (10000 ≤ length (now out)) ⌝ }
+    requires { ⌜ (shape .places < 256) × (shape .width < 256) × (t < 256) × (age < shape .width) ⌝ }
+    requires { ⌜ stateLength (shape .places) (t + 1) (shape .width) ≤ length (now state) ⌝ }
+    ensures { λ r. ⌜ r ≤ length (now (out .exit)) ⌝ }
+{
+    let count = words::read16(state, places::count_at(shape, t, Age(age).column()));
+    if count == 0 {
+        return at;
+    }
+    let from = room(out, at);
+    firings(out, from, t, age, count)
+}
+
+// The lines of a transition's counts, by age.
+fn row(out: &mut [u8], at: usize, state: &[u8], shape: Net, t: usize) -> usize
+    requires { ⌜ (at ≤ length (now out)) × (10000 ≤ length (now out)) ⌝ }
+    requires { ⌜ (shape .places < 256) × (shape .width < 256) × (t < 256) ⌝ }
+    requires { ⌜ stateLength (shape .places) (t + 1) (shape .width) ≤ length (now state) ⌝ }
+    ensures { λ r. ⌜ r ≤ length (now (out .exit)) ⌝ }
+{
+    let mut end = at;
+    let mut age: u8 = 0;
+    while words::wide(age) < shape.width {
+        end = cell(out, end, state, shape, t, age);
+        age += 1;
+    }
+    end
+}
+
+// The lines of all counts above 0.
+fn rows(out: &mut [u8], at: usize, state: &[u8], shape: Net) -> usize
+    requires { ⌜ (at ≤ length (now out)) × (10000 ≤ length (now out)) ⌝ }
+    requires { ⌜ (shape .places < 256) × (shape .transitions < 256) × (shape .width < 256) ⌝ }
+    requires { ⌜ stateLength (shape .places) (shape .transitions) (shape .width) ≤ length (now state) ⌝ }
+    ensures { λ r. ⌜ r ≤ length (now (out .exit)) ⌝ }
+{
+    let mut end = at;
+    let mut t = 0;
+    while t < shape.transitions {
+        end = row(out, end, state, shape, t);
+        t += 1;
+    }
+    end
+}
+
+// Writes what was gathered, and the lines of the state.
+pub fn state(out: &mut [u8], at: usize, state: &[u8])
+    requires { ⌜ (at ≤ 200) × (10000 ≤ length (now out)) ⌝ }
+    requires { ⌜ Shown (now state) ⌝ }
+{
+    let places = words::wide(state[5]);
+    let shape = Net::new(places, words::wide(state[6]), words::wide(state[7]));
+    let marked = marks(out, at, state, places);
+    let end = rows(out, marked, state, shape);
+    io::write_all(STDOUT_FILENO, &out[..end]);
+}

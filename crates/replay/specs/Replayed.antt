@@ -1,0 +1,80 @@
+-- What menurun tells and leaves of its input: a net and then a log, run from the net's initial state (document 01, the program).
+-- Assumes nothing.
+use mathlib.Core.Bool.{Bool, _&&_, cond}
+use mathlib.Core.List.{List}
+use Prim.Native.Nat.{ℕ, _≤_}
+use lib.Dec.{eqb, leb}
+use lib.ListN.{length, take, drop}
+use Rattle.model.specs.Limits.{placeLimit, transitionLimit}
+use Rattle.forms.specs.Word.{byte, word32}
+use Rattle.forms.specs.Places.{netLength, stateLength}
+use Rattle.runs.specs.declared.told.Told.{Told}
+use Rattle.engine.specs.declared.answers.Verdict.{Verdict}
+use Rattle.engine.specs.Calls.{initialTold, initialLeft, runTold, runLeft, owedTold}
+use Rattle.replay.specs.declared.input.Replayed.{Replayed}
+
+-- WHERE THE NET ENDS
+
+-- the longest lawful net
+abbrev pub longestNet : ℕ
+longestNet = netLength placeLimit transitionLimit
+
+-- the length field is whole, at most the longest lawful net's, and as many bytes arrived
+unfoldable pub arrived? : List ℕ → Bool
+arrived? input = leb 5 (length input) && (leb (word32 input 1) longestNet && leb (word32 input 1) (length input))
+
+-- as many bytes as the length field says; else none, which is refused by 1
+unfoldable pub netLengthIn : List ℕ → ℕ
+netLengthIn input = cond (arrived? input) (word32 input 1) 0
+
+abbrev pub netIn : List ℕ → List ℕ
+netIn input = take (netLengthIn input) input
+
+abbrev pub logIn : List ℕ → List ℕ
+logIn input = drop (netLengthIn input) input
+
+-- WHAT IS TOLD
+
+-- 1 to 10: before the first event
+abbrev pub early? : ℕ → Bool
+early? number = leb 1 number && leb number 10
+
+-- how the state stands, and 0 before the first event
+unfoldable pub standingAfter : ℕ → List ℕ → List ℕ → ℕ
+standingAfter number net state = cond (early? number) 0 (owedTold net state .standing)
+
+abbrev pub tells : Told → ℕ → Replayed
+tells told standing =
+    record { number = told .number; index = told .index; done = told .done; ticks = told .ticks; standing = standing }
+
+-- the log run from a state
+abbrev pub ranOn : List ℕ → List ℕ → List ℕ → Replayed
+ranOn net state log =
+    tells (runTold net state log) (standingAfter (runTold net state log .number) net (runLeft net state log))
+
+-- no initial state could be made
+abbrev pub notBegun : Verdict → Replayed
+notBegun verdict = record { number = verdict .number; index = verdict .index; done = 0; ticks = 0; standing = 0 }
+
+-- there is an initial state, and room for it
+abbrev pub begun? : List ℕ → List ℕ → Bool
+begun? net state = eqb (initialTold net state .number) 0
+
+unfoldable pub replayed : List ℕ → List ℕ → Replayed
+replayed input state =
+    cond (begun? (netIn input) state)
+    (ranOn (netIn input) (initialLeft (netIn input) state) (logIn input))
+    (notBegun (initialTold (netIn input) state))
+
+unfoldable pub replayLeft : List ℕ → List ℕ → List ℕ
+replayLeft input state =
+    cond (begun? (netIn input) state)
+    (runLeft (netIn input) (initialLeft (netIn input) state) (logIn input))
+    (initialLeft (netIn input) state)
+
+-- WHAT IS SHOWN
+
+-- a buffer with the head of a state, and as many bytes behind it as the head says: its markings and counts can be read
+pub record Shown (b : List ℕ) : Type 0 where
+  pub least : 8 ≤ length b
+  pub room : stateLength (byte b 5) (byte b 6) (byte b 7) ≤ length b

@@ -1,0 +1,26 @@
+-- Bytes put into a buffer as they are, and in hex: the turns of the loops.
+-- Assumes nothing.
+use mathlib.Core.Path.{_≡_, refl, ap, _∙_}
+use mathlib.Core.List.{List}
+use Prim.Native.Nat.{ℕ, _+_, _*_, _/_, _%_, _<_}
+use native.Mathlib.Numerals.{add-one}
+use lib.ListN.{length, getD, set}
+use lib.Seq.{paste, paste-suc}
+use Rattle.text.specs.Lines.{hexed, glyph}
+
+pub hexed-begin : (before : List ℕ) (at : ℕ) (bytes : List ℕ) → before ≡ hexed before at bytes 0
+unfolding hexed
+hexed-begin before at bytes = refl
+
+-- a turn puts the two digits of one byte more
+pub hexed-turn : (before : List ℕ) (at : ℕ) (bytes : List ℕ) (i : ℕ) (out : List ℕ) (byte high low : ℕ)
+    → out ≡ hexed before at bytes i → byte ≡ getD bytes i 0 → high ≡ glyph (byte / 16) → low ≡ glyph (byte % 16)
+    → set (set out (at + 2 * i) high) (at + 2 * i + 1) low ≡ hexed before at bytes (i + 1)
+unfolding hexed
+hexed-turn before at bytes i out byte high low e b h l = rw (add-one i, e, h, l, b) refl
+
+-- bytes put as they are: a turn of the loop
+pub paste-turn : (before : List ℕ) (at : ℕ) (bytes : List ℕ) (i : ℕ) (out : List ℕ) → at + i < length before → i < length bytes
+    → out ≡ paste before at bytes i → set out (at + i) (getD bytes i 0) ≡ paste before at bytes (i + 1)
+paste-turn before at bytes i out h l e =
+    rw (add-one i) (ap (λ (x : List ℕ). set x (at + i) (getD bytes i 0)) e ∙ paste-suc before at bytes i 0 h l)

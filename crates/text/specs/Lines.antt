@@ -1,0 +1,29 @@
+-- What stands in a buffer when a part of a line was put there.
+-- Assumes nothing.
+use mathlib.Core.Path.{_≡_}
+use mathlib.Core.List.{List}
+use Prim.Native.Nat.{ℕ, zero, suc, _+_, _*_, _/_, _%_}
+use lib.ListN.{getD, set}
+use lib.Seq.{paste}
+use Rattle.io.specs.Digits.{digits, Fewest}
+use Rattle.io.specs.Digits.{glyph as digitGlyph}
+
+-- the hex digit of a number below 16, in lower case
+abbrev pub glyph : ℕ → ℕ
+glyph n = digitGlyph n
+
+-- n stands in decimal from `at` to `end`, with as few digits as hold it and at least one; all else is as before
+pub record Spelt (before : List ℕ) (at n : ℕ) (after : List ℕ) (end : ℕ) : Type 0 where
+  pub places : ℕ
+  pub fewest : Fewest 10 1 n places
+  pub ends : end ≡ at + places
+  pub stands : after ≡ paste before at (digits 10 places n) places
+
+-- the first n bytes stand in hex from `at` on, the higher digit first; all else is as before
+unfoldable pub hexed : List ℕ → ℕ → List ℕ → ℕ → List ℕ
+hexed before at bytes zero = before
+hexed before at bytes (suc n) =
+    set
+    (set (hexed before at bytes n) (at + 2 * n) (glyph (getD bytes n 0 / 16)))
+    (at + 2 * n + 1)
+    (glyph (getD bytes n 0 % 16))

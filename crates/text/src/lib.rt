@@ -1,0 +1,2 @@
+// Lines of text, built in a lent buffer.
+pub mod line;

@@ -1,0 +1,66 @@
+// What a line is made of, put into a lent buffer from a place on: bytes, decimal numbers, and bytes in hex. Each function answers the
+// place behind what it put. Nothing else in the buffer changes.
+ghost use mathlib.Core.Path.{_≡_};
+ghost use Prim.Native.Nat.{_+_, _*_, _<_, _≤_};
+ghost use lib.ListN.{length, set};
+ghost use lib.Seq.{paste};
+ghost use Rattle.text.specs.Lines.{Spelt, hexed, glyph};
+
+// One byte.
+pub fn put_byte(out: &mut [u8], at: usize, byte: u8) -> usize
+    requires { ⌜ at < length (now out) ⌝ }
+    ensures { λ r. ⌜ r ≡ at + 1 ⌝ }
+    ensures { λ _. ⌜ now (out .exit) ≡ set (now (out .entry)) at byte ⌝ }
+{
+    out[at] = byte;
+    at + 1
+}
+
+// All of the bytes.
+pub fn put_bytes(out: &mut [u8], at: usize, bytes: &[u8]) -> usize
+    requires { ⌜ at + length (now bytes) ≤ length (now out) ⌝ }
+    ensures { λ r. ⌜ r ≡ at + length (now (bytes .entry)) ⌝ }
+    ensures { λ _. ⌜ now (out .exit) ≡ paste (now (out .entry)) at (now (bytes .entry)) (length (now (bytes .entry))) ⌝ }
+{
+    let mut i = 0;
+    while i < bytes.len() {
+        out[at + i] = bytes[i];
+        i += 1;
+    }
+    at + i
+}
+
+// A number in decimal: at most 20 digits.
+pub fn put_decimal(out: &mut [u8], at: usize, n: u64) -> usize
+    requires { ⌜ at + 20 ≤ length (now out) ⌝ }
+    ensures { λ r. ⌜ r ≤ at + 20 ⌝ }
+    ensures { λ r. ⌜ Spelt (now (out .entry)) at n (now (out .exit)) r ⌝ }
+{
+    let mut digits = [0u8; 20];
+    let places = io::decimal(n, &mut digits);
+    put_bytes(out, at, &digits[..places])
+}
+
+// The bytes in hex, two digits each, in lower case.
+pub fn put_hex(out: &mut [u8], at: usize, bytes: &[u8]) -> usize
+    requires { ⌜ at + 2 * length (now bytes) ≤ length (now out) ⌝ }
+    ensures { λ r. ⌜ r ≡ at + 2 * length (now (bytes .entry)) ⌝ }
+    ensures { λ _. ⌜ now (out .exit) ≡ hexed (now (out .entry)) at (now (bytes .entry)) (length (now (bytes .entry))) ⌝ }
+{
+    let mut i = 0;
+    while i < bytes.len() {
+        let byte = bytes[i];
+        out[at + 2 * i] = digit(byte / 16);
+        out[at + 2 * i + 1] = digit(byte % 16);
+        i += 1;
+    }
+    at + 2 * i
+}
+
+// The hex digit of a number below 16.
+fn digit(n: u8) -> u8
+    requires { ⌜ n < 16 ⌝ }
+    ensures { λ r. ⌜ r ≡ glyph n ⌝ }
+{
+    if n < 10 { b'0' + n } else { b'a' - 10 + n }
+}
