@@ -3,6 +3,7 @@
 mod show;
 
 use libc::STDIN_FILENO;
+use libc::STDOUT_FILENO;
 use replay::input;
 ghost use Prim.Native.Nat.{_≤_};
 ghost use lib.ListN.{length};
@@ -15,14 +16,15 @@ fn answer(arrived: &[u8], state: &mut [u8], out: &mut [u8])
     let number = told.number;
     let end = show::result(out, told);
     if input::is_early(number) {
-        io::write_all(libc::STDOUT_FILENO, &out[..end]);
+        io::write_all(STDOUT_FILENO, &out[..end]);
         return;
     }
-    show::state(out, end, state);
+    let all = show::state(out, end, state);
+    io::write_all(STDOUT_FILENO, &out[..all]);
 }
 
-// The longest net and one byte more than the longest log fit in the input, so a log that is too long is seen to be. The longest state
-// fits in its buffer.
+// The longest net and one byte more than the longest log fit in the input buffer: what is not read changes no answer (`CutOff` of
+// replay). The longest state fits in its buffer.
 fn main() {
     let mut input = io::large_buffer();
     let mut state = io::large_buffer();

@@ -121,14 +121,14 @@ fn rows(out: &mut [u8], at: usize, state: &[u8], shape: Net) -> usize
     end
 }
 
-// Writes what was gathered, and the lines of the state.
-pub fn state(out: &mut [u8], at: usize, state: &[u8])
+// The lines of the state. What was gathered before them is written on the way where the buffer gets full.
+pub fn state(out: &mut [u8], at: usize, state: &[u8]) -> usize
     requires { ⌜ (at ≤ 200) × (10000 ≤ length (now out)) ⌝ }
     requires { ⌜ Shown (now state) ⌝ }
+    ensures { λ r. ⌜ r ≤ length (now (out .exit)) ⌝ }
 {
     let places = words::wide(state[5]);
     let shape = Net::new(places, words::wide(state[6]), words::wide(state[7]));
     let marked = marks(out, at, state, places);
-    let end = rows(out, marked, state, shape);
-    io::write_all(STDOUT_FILENO, &out[..end]);
+    rows(out, marked, state, shape)
 }

@@ -2,3 +2,4 @@ pub mod Parts
 pub mod Shown
 pub mod Edges
 pub mod Determined
+pub mod CutOff

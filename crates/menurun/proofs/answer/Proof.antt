@@ -44,6 +44,15 @@ state-requires c κs =
       late-shown (a .arrived .now) (a .state .now) (r .result) (r .last .1 .0) (early .result) (r .ensures .0) (r .ensures .1) (early .ensures) (c .before .before .if1 .left),
     )
 
+slice-reshare-prefix-write-all-2 : tie.Need-slice-reshare-prefix-write-all-2
+slice-reshare-prefix-write-all-2 c = search needs
+
+slice-aggregate-write-all-2 : tie.Need-slice-aggregate-write-all-2
+slice-aggregate-write-all-2 c = sym (length-take-le (c .before .before .before .state2 .result) (c .before .before .before .state2 .last .0) (omega arith))
+
+write-all-requires-2 : tie.Need-write-all-requires-2
+write-all-requires-2 c κs = search needs
+
 same-length-3 : tie.Need-same-length-3
 same-length-3 c = search needs
 
@@ -67,6 +76,9 @@ answer-spec =
     same-length-2
     returns
     state-requires
+    slice-reshare-prefix-write-all-2
+    slice-aggregate-write-all-2
+    write-all-requires-2
     same-length-3
     same-length-4
     returns-2)

@@ -1,8 +1,6 @@
 -- `show::state` meets its contract: the state's own head says how much there is to read.
 -- Assumes nothing.
-use mathlib.Core.Path.{sym}
 use native.Mathlib.Omega.{arith}
-use lib.Seq.{length-take-le}
 use Rattle.menurun.proofs.Inside.{marks-fit, shape-fits}
 use borrow.Author.Needs.{needs}
 use Rattle.menurun.proofs.show.state.Statement.{statement}
@@ -46,15 +44,6 @@ rows-requires c κs =
           (transitions .ensures .0) (width .ensures .0) (places .ensures .1) (transitions .ensures .1) (width .ensures .1) (c .before .before .before .before .before .new .ensures),
     )
 
-slice-reshare-prefix-write-all : tie.Need-slice-reshare-prefix-write-all
-slice-reshare-prefix-write-all c = search needs
-
-slice-aggregate-write-all : tie.Need-slice-aggregate-write-all
-slice-aggregate-write-all c = sym (length-take-le (c .before .before .before .rows .result) (c .before .before .before .rows .last .0) (omega arith))
-
-write-all-requires : tie.Need-write-all-requires
-write-all-requires c κs = search needs
-
 same-length : tie.Need-same-length
 same-length c = search needs
 
@@ -74,8 +63,5 @@ state-spec =
     new-requires
     marks-requires
     rows-requires
-    slice-reshare-prefix-write-all
-    slice-aggregate-write-all
-    write-all-requires
     same-length
     returns)

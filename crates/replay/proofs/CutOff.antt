@@ -1,0 +1,145 @@
+-- How long the net may be, and that a program may stop reading: behind the longest net and the longest log nothing changes the answer.
+-- Assumes nothing.
+use mathlib.Core.Path.{_≡_, refl, sym, _∙_}
+use mathlib.Core.Bool.{Bool, false, true, cond, _&&_}
+use mathlib.Core.List.{List}
+use Prim.Native.Nat.{ℕ, _+_, _-_, _/_, _%_, _<_, _≤_}
+use native.Mathlib.Omega.{arith}
+use lib.Dec.{leb}
+use lib.ListN.{length, take, drop, length-drop}
+use lib.Seq.{getD-take, take-take, length-take-le}
+use borrow.Author.Tests.{leb-true, le-leb}
+use Rattle.model.specs.Limits.{eventLimit}
+use Rattle.forms.specs.declared.fault.Fault.{Fault}
+use Rattle.forms.specs.declared.fault.Fault.the-variants as fault
+use Rattle.forms.specs.declared.fault.Checked.the-variants as checked
+use Rattle.forms.specs.Word.{word, word32}
+use Rattle.forms.specs.Places.{rowAt, logLength}
+use Rattle.forms.specs.Logs.{checkLog}
+use Rattle.forms.proofs.Logs.{log-faulty}
+use Rattle.engine.specs.declared.examine.Examined.{Examined}
+use Rattle.engine.specs.declared.examine.Examined.the-variants as examined
+use Rattle.engine.specs.Examined.{examineState, examineLog}
+use Rattle.engine.specs.Calls.{initialLeft, runTold, runLeft}
+use Rattle.replay.specs.Replayed.{longestNet, arrived?, netLengthIn, netIn, logIn, replayed, replayLeft}
+
+-- the longest net, the longest log and a byte more
+abbrev pub enough : ℕ
+enough = longestNet + logLength eventLimit + 1
+
+long : longestNet ≡ 8455
+unfolding rowAt
+long = refl
+
+pub enough-is : enough ≡ 56461
+unfolding rowAt
+enough-is = refl
+
+-- HOW LONG THE NET MAY BE
+
+at-most : (whole fits here : Bool) (field most : ℕ) → (fits ≡ true → field ≤ most) → cond (whole && (fits && here)) field 0 ≤ most
+at-most true true true field most h = h refl
+at-most true true false field most h = omega arith
+at-most true false here field most h = omega arith
+at-most false fits here field most h = omega arith
+
+pub net-at-most : (input : List ℕ) → netLengthIn input ≤ longestNet
+unfolding netLengthIn arrived?
+net-at-most input =
+    at-most (leb 5 (length input)) (leb (word32 input 1) longestNet) (leb (word32 input 1) (length input)) (word32 input 1) longestNet
+    (leb-true (word32 input 1) longestNet)
+
+-- A LOG THAT IS TOO LONG
+
+pub long-log : (log : List ℕ) → logLength eventLimit < length log → checkLog log ≡ checked.Bad fault.LogFrame
+long-log log h = log-faulty log .1 (λ is. not-few (is .few) (is .least) (is .whole))
+  where
+    not-few : (length log - 5) / 2 ≤ 24000 → 5 ≤ length log → (length log - 5) % 2 ≡ 0 → ⊥
+    not-few few least whole = omega arith
+
+-- two logs that are refused alike tell and leave the same
+module _ (net state log log′ : List ℕ) (why : Fault) (bad : checkLog log ≡ checked.Bad why) (bad′ : checkLog log′ ≡ checked.Bad why) where
+  alike : examineLog net state log ≡ examineLog net state log′
+  unfolding examineLog
+  alike = rw (bad, bad′) refl
+
+  refused : (x : Examined) → examineState net state ≡ x → (w : Fault) × (examineLog net state log ≡ examined.Unfit w)
+  unfolding examineLog
+  refused (examined.Fit s) e = (why, rw (e, bad) refl)
+  refused (examined.Unfit w) e = (w, rw e refl)
+
+  pub told-alike : runTold net state log ≡ runTold net state log′
+  unfolding runTold
+  told-alike = let r = refused _ refl in rw (r .1, sym alike ∙ r .1) refl
+
+  pub left-alike : runLeft net state log ≡ runLeft net state log′
+  unfolding runLeft
+  left-alike = let r = refused _ refl in rw (r .1, sym alike ∙ r .1) refl
+
+-- WHAT IS CUT OFF CHANGES NOTHING
+
+module _ (input : List ℕ) (m : ℕ) (much : enough ≤ m) (cut : m ≤ length input) where
+  big : 56461 ≤ m
+  big = rw enough-is at much
+
+  same-field : word32 (take m input) 1 ≡ word32 input 1
+  unfolding word word32
+  same-field =
+      rw (
+        getD-take m input 1 0 (omega (arith, big)),
+        getD-take m input 2 0 (omega (arith, big)),
+        getD-take m input 3 0 (omega (arith, big)),
+        getD-take m input 4 0 (omega (arith, big)),
+      ) refl
+
+  whole : length (take m input) ≡ m
+  whole = length-take-le m input cut
+
+  same-test : (x : Bool) → leb (word32 input 1) longestNet ≡ x → arrived? (take m input) ≡ arrived? input
+  unfolding arrived?
+  same-test true e =
+      let f : word32 input 1 ≤ 8455 = rw long at (leb-true (word32 input 1) longestNet e) in
+      rw (
+        same-field,
+        e,
+        whole,
+        le-leb 5 m (omega (arith, big)),
+        le-leb 5 (length input) (omega (arith, big)),
+        le-leb (word32 input 1) m (omega (arith, f, big)),
+        le-leb (word32 input 1) (length input) (omega (arith, f, big)),
+      ) refl
+  same-test false e =
+      rw (same-field, e, whole, le-leb 5 m (omega (arith, big)), le-leb 5 (length input) (omega (arith, big))) refl
+
+  same-length : netLengthIn (take m input) ≡ netLengthIn input
+  unfolding netLengthIn
+  same-length = rw (same-test _ refl, same-field) refl
+
+  n-small : netLengthIn input ≤ 8455
+  n-small = rw long at (net-at-most input)
+
+  same-net : netIn (take m input) ≡ netIn input
+  same-net = rw same-length (take-take (netLengthIn input) m input (omega (arith, n-small, big)))
+
+  cut-log : checkLog (logIn (take m input)) ≡ checked.Bad fault.LogFrame
+  cut-log = rw same-length (long-log (drop (netLengthIn input) (take m input))
+      (omega (arith, length-drop (netLengthIn input) (take m input), whole, n-small, big)))
+
+  whole-log : checkLog (logIn input) ≡ checked.Bad fault.LogFrame
+  whole-log = long-log (logIn input) (omega (arith, length-drop (netLengthIn input) input, n-small, big))
+
+  module _ (state : List ℕ) where
+    pub same-told : replayed (take m input) state ≡ replayed input state
+    unfolding replayed
+    same-told =
+        let s = initialLeft (netIn input) state in
+        let t = told-alike (netIn input) s (logIn (take m input)) (logIn input) fault.LogFrame cut-log whole-log in
+        let l = left-alike (netIn input) s (logIn (take m input)) (logIn input) fault.LogFrame cut-log whole-log in
+        rw (same-net, t, l) refl
+
+    pub same-left : replayLeft (take m input) state ≡ replayLeft input state
+    unfolding replayLeft
+    same-left =
+        let s = initialLeft (netIn input) state in
+        let l = left-alike (netIn input) s (logIn (take m input)) (logIn input) fault.LogFrame cut-log whole-log in
+        rw (same-net, l) refl
