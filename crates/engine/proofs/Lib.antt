@@ -3,6 +3,8 @@ pub mod Fits
 pub mod StepParts
 pub mod Courses
 pub mod PastChecks
+pub mod OneEvent
+pub mod WholeLog
 pub mod Demands
 pub mod Checks
 pub mod Faults
