@@ -12,11 +12,11 @@ use Rattle.model.specs.declared.net.Net.{Net as Shape}
 use Rattle.model.specs.Age.{columnOf}
 use Rattle.model.specs.Net.{width, count, tokens}
 use Rattle.forms.specs.Word.{byte, word}
-use Rattle.forms.specs.Places.{rowAt, rowLength, markAt, countAt, stateLength}
+use Rattle.forms.specs.Places.{rowAt, rowLength, inputsAt, outputsAt, markAt, countAt, stateLength}
 use Rattle.forms.specs.Stored.{netOf, stored}
 use Rattle.forms.specs.Frame.{Framed}
 use Rattle.forms.proofs.Nets.{row-inside}
-use Rattle.forms.proofs.States.{places-same, transitions-same, transitions-model, lfd-below}
+use Rattle.forms.proofs.States.{places-small, places-same, transitions-small, transitions-same, transitions-model, width-small, lfd-below}
 use Rattle.forms.proofs.Stored.{tokens-are, count-is}
 
 module _ (net : List ℕ) (shape : Shape) (b : List ℕ) (f : Framed net shape b) where
@@ -42,6 +42,29 @@ module _ (net : List ℕ) (shape : Shape) (b : List ℕ) (f : Framed net shape b
     -- the row of t stands within the net
     pub row-fits : rowAt (shape .places) t + rowLength (shape .places) ≤ length net
     row-fits = rw (places-same net shape (f .net-framed)) (row-inside net (f .net-framed .is-net) t known)
+
+    -- places of the net and of the state are small enough to be computed
+    pub row-limits : (shape .places < 256) × (t < 256)
+    row-limits = (
+      omega (arith, places-small net shape (f .net-framed)),
+      omega (arith, transitions-small net shape (f .net-framed), known-shape),
+    )
+
+    pub count-limits : (age : Age) (c : Column) → age .0 < shape .width → c ≡ columnOf age
+        → (shape .places < 256) × (shape .width ≤ 256) × (t < 256) × (0 < c .0) × (c .0 ≤ 256)
+    count-limits age c young e =
+        let column : c .0 ≡ age .0 + 1 = ap (λ (x : Column). x .0) e in
+        let wide = width-small net shape (f .net-framed) in
+        (row-limits .0, omega (arith, wide), row-limits .1, omega arith, omega (arith, wide))
+
+    -- the weights of t stand within the net, and the markings within the state
+    pub inputs-inside : (from : ℕ) → from ≡ inputsAt (shape .places) t
+        → (shape .places < 256) × (from + shape .places ≤ length net) × (markAt (shape .places) ≤ length b)
+    inputs-inside from e = (row-limits .0, omega (arith, row-fits), marks-inside)
+
+    pub outputs-inside : (from : ℕ) → from ≡ outputsAt (shape .places) t
+        → (shape .places < 256) × (from + shape .places ≤ length net) × (markAt (shape .places) ≤ length b)
+    outputs-inside from e = (row-limits .0, omega (arith, row-fits), marks-inside)
 
     -- the count of t at an age that has its column stands within the state
     pub count-inside : (age : Age) (c : Column) (at : ℕ) → age .0 < shape .width → c ≡ columnOf age

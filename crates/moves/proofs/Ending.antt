@@ -25,8 +25,8 @@ use Rattle.forms.specs.Stored.{netOf, stored}
 use Rattle.forms.specs.Frame.{Framed}
 use Rattle.forms.proofs.Inside.{lfd-young}
 use Rattle.owed.specs.Marks.{roomy?}
-use Rattle.owed.proofs.Tests.{roomy-is}
-use Rattle.moves.specs.Marking.{less, more}
+use Rattle.owed.proofs.ModelTests.{roomy-is}
+use Rattle.moves.specs.Marking.{afterTaking, afterGiving}
 use Rattle.moves.specs.After.{applied, takenBack, Answers}
 use Rattle.moves.proofs.Fired.{unknown-test, known-test, one-more, roomy-each, raised, lowered}
 
@@ -92,7 +92,7 @@ module _ (net : List ℕ) (shape : Shape) (b : List ℕ) (f : Framed net shape b
           module _ (small : Bytes b) (c : Column) (at : ℕ) (column : c ≡ columnOf age)
               (place : at ≡ countAt (shape .places) (shape .width) t c) (x y : List ℕ) where
             pub end-done : 1 ≤ v → v < 65536 → roomy? net from b (shape .places) ≡ true
-                → x ≡ putWords (markAt 0) (shape .places) (more net from b) b → y ≡ setWord x at (v - 1)
+                → x ≡ putWords (markAt 0) (shape .places) (afterGiving net from b) b → y ≡ setWord x at (v - 1)
                 → Answers net b (applied net b (event.End t age)) answer.Done y
             unfolding apply ended
             end-done l fits roomy ex ey =
@@ -108,7 +108,7 @@ module _ (net : List ℕ) (shape : Shape) (b : List ℕ) (f : Framed net shape b
                 )
 
             pub unend-done : covers? (netOf net) (stored net b) (netOf net .gives t) ≡ true → held? (v + 1) ≡ true
-                → x ≡ putWords (markAt 0) (shape .places) (less net from b) b → y ≡ setWord x at (v + 1)
+                → x ≡ putWords (markAt 0) (shape .places) (afterTaking net from b) b → y ≡ setWord x at (v + 1)
                 → Answers net b (takenBack net b (event.End t age)) answer.Done y
             unfolding back unended
             unend-done covered free ex ey =

@@ -24,17 +24,17 @@ use Rattle.model.proofs.Tests.{held-tells}
 use Rattle.model.proofs.Alls.{holds}
 use Rattle.model.proofs.Shape.{tokens-build, count-build}
 use Rattle.forms.specs.Word.{Bytes, byte, word, setWord, putWords, putRows}
-use Rattle.forms.specs.Places.{markAt, inputsAt, outputsAt, countAt, stateLength, imageLength}
+use Rattle.forms.specs.Places.{markAt, countAt, stateLength, imageLength}
 use Rattle.forms.specs.Stored.{netOf, stateOf, stored}
 use Rattle.forms.specs.Written.{written}
 use Rattle.forms.specs.Frame.{Framed}
 use Rattle.forms.proofs.WordLaws.{word-same, word-after, word-before, word-fits, bytes-setWord, bytes-putWords, length-putWords, word-putWords-behind, putWords-cong, putWords-own}
 use Rattle.forms.proofs.Runs.{putRows-flat, putWords-over}
 use Rattle.forms.proofs.Stored.{count-place, count-at}
-use Rattle.forms.proofs.States.{places-small, transitions-small, width-small, transitions-same}
-use Rattle.forms.proofs.Inside.{mark-stands, marks-inside, row-fits, known-shape, known-model}
+use Rattle.forms.proofs.States.{transitions-same}
+use Rattle.forms.proofs.Inside.{mark-stands, known-model}
 use Rattle.owed.specs.Marks.{roomy?}
-use Rattle.moves.specs.Marking.{less, more}
+use Rattle.moves.specs.Marking.{afterTaking, afterGiving}
 
 -- two cells of a matrix with d columns stand at one place only if they are one cell
 cell-once : (d t j u k : ℕ) → j < d → k < d → t * d + j ≡ u * d + k → (t ≡ u) × (j ≡ k)
@@ -116,26 +116,26 @@ module _ (net : List ℕ) (shape : Shape) (b : List ℕ) (f : Framed net shape b
   young-model : age .0 < width (netOf net)
   young-model = omega (arith, f .net-framed .has-shape .width-is)
 
-  pub raised : Held (v + 1) → (x y : List ℕ) → x ≡ putWords (markAt 0) (shape .places) (less net from b) b → y ≡ setWord x at (v + 1)
+  pub raised : Held (v + 1) → (x y : List ℕ) → x ≡ putWords (markAt 0) (shape .places) (afterTaking net from b) b → y ≡ setWord x at (v + 1)
       → y ≡ written (netOf net) (build (netOf net) (λ p. tokens (stored net b) p - w p) (λ u k. count (stored net b) u k + one t (age .0) u k)) b
   raised free x y ex ey =
       let N = netOf net in
       let tm = known-model net shape b f t known in
       rw (ey, ex, place-is, f .net-framed .has-shape .places-are)
-      (cell-written N b (f .is-state .head .room) small t (age .0) tm young-model (less net from b) (v + 1) _
+      (cell-written N b (f .is-state .head .room) small t (age .0) tm young-model (afterTaking net from b) (v + 1) _
       (λ p l. omega (arith, word-fits b (markAt p) small)) (omega arith)
       (λ p l. tokens-build N _ _ p l ∙ omega (arith, mark-stands net shape b f p (omega (arith, f .net-framed .has-shape .places-are)), right p))
       (count-build N _ _ t (age .0) tm young-model ∙ omega (arith, one-here t (age .0), stands))
       (λ u k ul kl off. count-build N _ _ u k ul kl ∙ omega (arith, one-off t (age .0) u k off)))
 
   pub lowered : v < 65536 → ((p : ℕ) → p < shape .places → Held (word b (markAt p) + byte net (from + p)))
-      → (x y : List ℕ) → x ≡ putWords (markAt 0) (shape .places) (more net from b) b → y ≡ setWord x at (v - 1)
+      → (x y : List ℕ) → x ≡ putWords (markAt 0) (shape .places) (afterGiving net from b) b → y ≡ setWord x at (v - 1)
       → y ≡ written (netOf net) (build (netOf net) (λ p. tokens (stored net b) p + w p) (λ u k. count (stored net b) u k - one t (age .0) u k)) b
   lowered fits-v roomy x y ex ey =
       let N = netOf net in
       let tm = known-model net shape b f t known in
       rw (ey, ex, place-is, f .net-framed .has-shape .places-are)
-      (cell-written N b (f .is-state .head .room) small t (age .0) tm young-model (more net from b) (v - 1) _
+      (cell-written N b (f .is-state .head .room) small t (age .0) tm young-model (afterGiving net from b) (v - 1) _
       (λ p l. omega (arith, roomy p (omega (arith, f .net-framed .has-shape .places-are)))) (omega arith)
       (λ p l. tokens-build N _ _ p l ∙ omega (arith, mark-stands net shape b f p (omega (arith, f .net-framed .has-shape .places-are)), right p))
       (count-build N _ _ t (age .0) tm young-model ∙ omega (arith, one-here t (age .0), stands))
@@ -153,29 +153,6 @@ module _ (net : List ℕ) (shape : Shape) (b : List ℕ) (f : Framed net shape b
   module _ (known : t < byte net 6) where
     pub known-test : ltb t (netOf net .transitions) ≡ true
     known-test = lt-ltb t (netOf net .transitions) (known-model net shape b f t known)
-
-    -- places of the net and of the state are small enough to be computed
-    pub row-limits : (shape .places < 256) × (t < 256)
-    row-limits = (
-      omega (arith, places-small net shape (f .net-framed)),
-      omega (arith, transitions-small net shape (f .net-framed), known-shape net shape b f t known),
-    )
-
-    pub count-limits : (age : Age) (c : Column) → age .0 < shape .width → c ≡ columnOf age
-        → (shape .places < 256) × (shape .width ≤ 256) × (t < 256) × (0 < c .0) × (c .0 ≤ 256)
-    count-limits age c young e =
-        let column : c .0 ≡ age .0 + 1 = ap (λ (x : Column). x .0) e in
-        let wide = width-small net shape (f .net-framed) in
-        (row-limits .0, omega (arith, wide), row-limits .1, omega arith, omega (arith, wide))
-
-    -- the weights of t stand within the net, and the markings within the state
-    pub inputs-inside : (from : ℕ) → from ≡ inputsAt (shape .places) t
-        → (shape .places < 256) × (from + shape .places ≤ length net) × (markAt (shape .places) ≤ length b)
-    inputs-inside from e = (row-limits .0, omega (arith, row-fits net shape b f t known), marks-inside net shape b f)
-
-    pub outputs-inside : (from : ℕ) → from ≡ outputsAt (shape .places) t
-        → (shape .places < 256) × (from + shape .places ≤ length net) × (markAt (shape .places) ≤ length b)
-    outputs-inside from e = (row-limits .0, omega (arith, row-fits net shape b f t known), marks-inside net shape b f)
 
 -- every place has room for its weight
 pub roomy-each : (net : List ℕ) (from : ℕ) (b : List ℕ) (n : ℕ) → roomy? net from b n ≡ true

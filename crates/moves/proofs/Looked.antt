@@ -20,7 +20,7 @@ use Rattle.forms.specs.Stored.{netOf, stored}
 use Rattle.forms.specs.Frame.{Framed}
 use Rattle.forms.proofs.Inside.{mark-stands}
 use Rattle.owed.specs.Marks.{short?, shortPlace}
-use Rattle.owed.proofs.Tests.{lowest-all, covers-is}
+use Rattle.owed.proofs.ModelTests.{lowest-all, covers-is}
 
 -- what the search tells is at most the number of places
 lowest-within : (f : ℕ → Bool) (n : ℕ) → lowest n n f ≤ n

@@ -25,8 +25,8 @@ use Rattle.forms.specs.Frame.{Framed}
 use Rattle.forms.proofs.States.{places-same}
 use Rattle.forms.proofs.Inside.{mark-stands}
 use Rattle.owed.specs.Marks.{roomy?}
-use Rattle.owed.proofs.Tests.{inputs-right, roomy-is}
-use Rattle.moves.specs.Marking.{less, more}
+use Rattle.owed.proofs.ModelTests.{inputs-right, roomy-is}
+use Rattle.moves.specs.Marking.{afterTaking, afterGiving}
 use Rattle.moves.specs.After.{applied, takenBack, Answers}
 use Rattle.moves.proofs.Fired.{raised, lowered, unknown-test, known-test, roomy-each, one-more}
 
@@ -88,7 +88,7 @@ module _ (net : List ℕ) (shape : Shape) (b : List ℕ) (f : Framed net shape b
         -- `at`, where the count stands; x is the buffer with the markings written, and y with the count written too
         pub unstart-done : not room ≡ false → Bytes b → v < 65536
             → (c : Column) (at : ℕ) → c ≡ columnOf (record { 0 = 0 }) → at ≡ countAt (shape .places) (shape .width) t c
-            → (x y : List ℕ) → x ≡ putWords (markAt 0) (shape .places) (more net from b) b → y ≡ setWord x at (v - 1)
+            → (x y : List ℕ) → x ≡ putWords (markAt 0) (shape .places) (afterGiving net from b) b → y ≡ setWord x at (v - 1)
             → Answers net b (takenBack net b (event.Start t)) answer.Done y
         unfolding back unstarted
         unstart-done free small fits c at column place x y ex ey =
@@ -106,7 +106,7 @@ module _ (net : List ℕ) (shape : Shape) (b : List ℕ) (f : Framed net shape b
 
         pub start-done : not free ≡ false → Bytes b → (from : ℕ) → from ≡ inputsAt (shape .places) t
             → (c : Column) (at : ℕ) → c ≡ columnOf (record { 0 = 0 }) → at ≡ countAt (shape .places) (shape .width) t c
-            → (x y : List ℕ) → x ≡ putWords (markAt 0) (shape .places) (less net from b) b → y ≡ setWord x at (v + 1)
+            → (x y : List ℕ) → x ≡ putWords (markAt 0) (shape .places) (afterTaking net from b) b → y ≡ setWord x at (v + 1)
             → Answers net b (applied net b (event.Start t)) answer.Done y
         unfolding apply started
         start-done held small from e c at column place x y ex ey =

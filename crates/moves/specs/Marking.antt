@@ -5,8 +5,8 @@ use Prim.Native.Nat.{ℕ, _+_, _-_}
 use Rattle.forms.specs.Word.{byte, word}
 use Rattle.forms.specs.Places.{markAt}
 
-abbrev pub less : List ℕ → ℕ → List ℕ → ℕ → ℕ
-less net from state p = word state (markAt p) - byte net (from + p)
+abbrev pub afterTaking : List ℕ → ℕ → List ℕ → ℕ → ℕ
+afterTaking net from state p = word state (markAt p) - byte net (from + p)
 
-abbrev pub more : List ℕ → ℕ → List ℕ → ℕ → ℕ
-more net from state p = word state (markAt p) + byte net (from + p)
+abbrev pub afterGiving : List ℕ → ℕ → List ℕ → ℕ → ℕ
+afterGiving net from state p = word state (markAt p) + byte net (from + p)

@@ -7,13 +7,13 @@ ghost use lib.ListN.{length};
 ghost use Rattle.model.specs.Limits.{Held};
 ghost use Rattle.forms.specs.Word.{byte, word, putWords};
 ghost use Rattle.forms.specs.Places.{markAt};
-ghost use Rattle.moves.specs.Marking.{less, more};
+ghost use Rattle.moves.specs.Marking.{afterTaking, afterGiving};
 
 // The weights leave the marking of so many places.
 pub fn take(net: &[u8], from: usize, state: &mut [u8], places: usize)
     requires { ⌜ (places < 256) × (from + places ≤ length (now net)) × (markAt places ≤ length (now state)) ⌝ }
     requires { ⌜ ((p : ℕ) → p < places → byte (now net) (from + p) ≤ word (now state) (markAt p)) ⌝ }
-    ensures { λ _. ⌜ now (state .exit) ≡ putWords (markAt 0) places (less (now (net .entry)) from (now (state .entry))) (now (state .entry)) ⌝ }
+    ensures { λ _. ⌜ now (state .exit) ≡ putWords (markAt 0) places (afterTaking (now (net .entry)) from (now (state .entry))) (now (state .entry)) ⌝ }
 {
     let mut p = 0;
     while p < places {
@@ -31,7 +31,7 @@ pub fn take(net: &[u8], from: usize, state: &mut [u8], places: usize)
 pub fn give(net: &[u8], from: usize, state: &mut [u8], places: usize)
     requires { ⌜ (places < 256) × (from + places ≤ length (now net)) × (markAt places ≤ length (now state)) ⌝ }
     requires { ⌜ ((p : ℕ) → p < places → Held (word (now state) (markAt p) + byte (now net) (from + p))) ⌝ }
-    ensures { λ _. ⌜ now (state .exit) ≡ putWords (markAt 0) places (more (now (net .entry)) from (now (state .entry))) (now (state .entry)) ⌝ }
+    ensures { λ _. ⌜ now (state .exit) ≡ putWords (markAt 0) places (afterGiving (now (net .entry)) from (now (state .entry))) (now (state .entry)) ⌝ }
 {
     let mut p = 0;
     while p < places {

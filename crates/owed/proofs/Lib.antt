@@ -1,5 +1,5 @@
 pub mod OwedWords
-pub mod Tests
+pub mod ModelTests
 pub mod Reported
 pub mod Edges
 pub mod Determined

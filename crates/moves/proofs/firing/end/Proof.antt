@@ -9,10 +9,10 @@ use Rattle.model.proofs.Alls.{passed, failed}
 use Rattle.forms.specs.Word.{Bytes, byte}
 use Rattle.forms.specs.Stored.{netOf}
 use Rattle.forms.proofs.States.{places-same}
-use Rattle.forms.proofs.Inside.{count-inside}
+use Rattle.forms.proofs.Inside.{count-inside, row-limits, count-limits, outputs-inside}
 use Rattle.owed.specs.Marks.{roomy?}
-use Rattle.owed.proofs.Tests.{outputs-right}
-use Rattle.moves.proofs.Fired.{known-byte, row-limits, count-limits, outputs-inside, roomy-each}
+use Rattle.owed.proofs.ModelTests.{outputs-right}
+use Rattle.moves.proofs.Fired.{known-byte, roomy-each}
 use Rattle.moves.proofs.Ending.{end-unknown, end-untimely, end-none, end-full, end-done, young}
 use borrow.Author.Needs.{needs}
 use Rattle.moves.proofs.firing.end.Statement.{statement}

@@ -5,8 +5,8 @@ use native.Mathlib.Omega.{arith}
 use Rattle.model.proofs.Tests.{held-tells}
 use Rattle.model.proofs.Alls.{passed, holds}
 use Rattle.forms.specs.Word.{byte}
-use Rattle.forms.proofs.Inside.{count-inside}
-use Rattle.moves.proofs.Fired.{known-byte, row-limits, count-limits, inputs-inside}
+use Rattle.forms.proofs.Inside.{count-inside, row-limits, count-limits, inputs-inside}
+use Rattle.moves.proofs.Fired.{known-byte}
 use Rattle.moves.proofs.Starting.{start-unknown, start-disabled, start-full, start-done, fresh, enabled-each}
 use borrow.Author.Needs.{needs}
 use Rattle.moves.proofs.firing.start.Statement.{statement}

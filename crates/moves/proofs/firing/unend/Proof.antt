@@ -11,10 +11,10 @@ use Rattle.model.proofs.Alls.{passed, failed}
 use Rattle.forms.specs.Word.{Bytes, byte}
 use Rattle.forms.specs.Stored.{netOf, stored}
 use Rattle.forms.proofs.States.{places-same}
-use Rattle.forms.proofs.Inside.{count-inside}
-use Rattle.owed.proofs.Tests.{outputs-right}
+use Rattle.forms.proofs.Inside.{count-inside, row-limits, count-limits, outputs-inside}
+use Rattle.owed.proofs.ModelTests.{outputs-right}
 use Rattle.moves.proofs.Looked.{none-short, some-short, covered-each}
-use Rattle.moves.proofs.Fired.{known-byte, row-limits, count-limits, outputs-inside}
+use Rattle.moves.proofs.Fired.{known-byte}
 use Rattle.moves.proofs.Ending.{unend-unknown, unend-untimely, unend-short, unend-full, unend-done, young}
 use borrow.Author.Needs.{needs}
 use Rattle.moves.proofs.firing.unend.Statement.{statement}

@@ -3,8 +3,8 @@
 use Prim.Native.Nat.{_<_}
 use native.Mathlib.Omega.{arith}
 use Rattle.forms.specs.Word.{byte}
-use Rattle.forms.proofs.Inside.{count-inside}
-use Rattle.moves.proofs.Fired.{known-byte, row-limits, count-limits, inputs-inside}
+use Rattle.forms.proofs.Inside.{count-inside, row-limits, count-limits, inputs-inside}
+use Rattle.moves.proofs.Fired.{known-byte}
 use Rattle.moves.proofs.Starting.{unstart-unknown, unstart-none, unstart-no-room, unstart-done, fresh, room-each}
 use borrow.Author.Needs.{needs}
 use Rattle.moves.proofs.firing.unstart.Statement.{statement}

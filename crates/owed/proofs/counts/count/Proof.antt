@@ -1,10 +1,7 @@
 -- `counts::count` meets its contract: the word at the place of the count.
 -- Assumes nothing.
-use mathlib.Core.Path.{ap, _∙_}
-use native.Mathlib.Omega.{arith}
-use Rattle.model.specs.declared.age.Column.{Column}
-use Rattle.forms.proofs.States.{places-small, transitions-small, width-small, transitions-same}
-use Rattle.forms.proofs.Inside.{count-inside, count-stands}
+use mathlib.Core.Path.{_∙_}
+use Rattle.forms.proofs.Inside.{count-limits, count-inside, count-stands}
 use borrow.Author.Needs.{needs}
 use Rattle.owed.proofs.counts.count.Statement.{statement}
 use Rattle.owed.proofs.counts.count.Tie as tie
@@ -15,14 +12,8 @@ column-requires c κs = search needs
 count-at-requires : tie.Need-count-at-requires
 count-at-requires c κs =
     let e = c .before .before .before in
-    let net = e .args .net .now in
-    let g = e .pre .0 .net-framed in (
-      omega (arith, places-small net (e .args .shape) g),
-      omega (arith, width-small net (e .args .shape) g),
-      omega (arith, transitions-small net (e .args .shape) g, transitions-same net (e .args .shape) g, e .pre .1 .0),
-      omega (arith, ap (λ (x : Column). x .0) (c .column .ensures)),
-      omega (arith, ap (λ (x : Column). x .0) (c .column .ensures), width-small net (e .args .shape) g, e .pre .1 .1),
-    )
+    count-limits (e .args .net .now) (e .args .shape) (e .args .state .now) (e .pre .0) (e .args .t) (e .pre .1 .0) (e .args .age) (c .column .result)
+    (e .pre .1 .1) (c .column .ensures)
 
 read16-requires : tie.Need-read16-requires
 read16-requires c κs =

@@ -12,7 +12,7 @@ use Rattle.model.specs.Net.{count as countOf}
 use Rattle.model.proofs.Alls.{all-begin, all-turn, all-stop, all-end}
 use Rattle.forms.specs.Stored.{netOf, stored}
 use Rattle.forms.proofs.States.{transitions-same}
-use Rattle.owed.proofs.Tests.{no-end-is}
+use Rattle.owed.proofs.ModelTests.{no-end-is}
 use borrow.Author.Needs.{needs}
 use Rattle.owed.proofs.counts.no_end_owed.Statement.{statement}
 use Rattle.owed.proofs.counts.no_end_owed.Tie as tie

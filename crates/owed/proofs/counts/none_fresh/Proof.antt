@@ -12,7 +12,7 @@ use Rattle.model.specs.Net.{count as countOf}
 use Rattle.model.proofs.Alls.{all-begin, all-turn, all-stop, all-end}
 use Rattle.forms.specs.Stored.{netOf, stored}
 use Rattle.forms.proofs.States.{transitions-same}
-use Rattle.owed.proofs.Tests.{none-fresh-is}
+use Rattle.owed.proofs.ModelTests.{none-fresh-is}
 use Rattle.model.proofs.Shape.{width-pos}
 use borrow.Author.Needs.{needs}
 use Rattle.owed.proofs.counts.none_fresh.Statement.{statement}

@@ -4,7 +4,7 @@ use mathlib.Core.Path.{_∙_}
 use native.Mathlib.Omega.{arith}
 use Rattle.forms.proofs.States.{places-small, transitions-small, width-small}
 use Rattle.forms.proofs.Inside.{clock-inside}
-use Rattle.owed.proofs.Tests.{nothing-running-is}
+use Rattle.owed.proofs.ModelTests.{nothing-running-is}
 use Rattle.owed.proofs.counts.nothing_running.Statement.{statement}
 use Rattle.owed.proofs.counts.nothing_running.Tie as tie
 

@@ -10,7 +10,7 @@ use Rattle.model.specs.Limits.{tokenLimit}
 use Rattle.model.specs.Rules.{times as timesOf}
 use Rattle.forms.specs.Word.{byte, word}
 use Rattle.forms.specs.Places.{markAt}
-use Rattle.owed.proofs.Tests.{least-turn}
+use Rattle.owed.proofs.ModelTests.{least-turn}
 use borrow.Author.Needs.{needs}
 use Rattle.owed.proofs.degree.least_times.Statement.{statement}
 use Rattle.owed.proofs.degree.least_times.Tie as tie

@@ -10,7 +10,7 @@ use Rattle.model.proofs.Alls.{all-begin, all-turn}
 use Rattle.forms.specs.Word.{byte, word}
 use Rattle.forms.specs.Places.{markAt}
 use Rattle.owed.specs.Marks.{short?, shortPlace}
-use Rattle.owed.proofs.Tests.{lowest-found, lowest-end}
+use Rattle.owed.proofs.ModelTests.{lowest-found, lowest-end}
 use borrow.Author.Needs.{needs}
 use Rattle.owed.proofs.marks.short_place.Statement.{statement}
 use Rattle.owed.proofs.marks.short_place.Tie as tie

@@ -6,7 +6,7 @@ use Prim.Native.Nat.{_≤_}
 use Rattle.model.specs.Owed.{owes-start?, owes-end?, owed}
 use Rattle.forms.specs.Stored.{netOf, stored}
 use Rattle.forms.proofs.States.{transitions-small}
-use Rattle.owed.proofs.Tests.{set-is}
+use Rattle.owed.proofs.ModelTests.{set-is}
 use borrow.Author.Needs.{needs}
 use Rattle.owed.proofs.report.report.Statement.{statement}
 use Rattle.owed.proofs.report.report.Tie as tie

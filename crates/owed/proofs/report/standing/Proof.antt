@@ -2,7 +2,7 @@
 -- Assumes nothing.
 use mathlib.Core.Path.{sym, _∙_}
 use Rattle.forms.specs.Stored.{netOf, stored}
-use Rattle.owed.proofs.Tests.{stands-start, stands-end, stands-rest, stands-free}
+use Rattle.owed.proofs.ModelTests.{stands-start, stands-end, stands-rest, stands-free}
 use borrow.Author.Needs.{needs}
 use Rattle.owed.proofs.report.standing.Statement.{statement}
 use Rattle.owed.proofs.report.standing.Tie as tie

@@ -13,7 +13,7 @@ use Rattle.forms.specs.Stored.{netOf, stored}
 use Rattle.forms.proofs.States.{transitions-small, transitions-same, transitions-model}
 use Rattle.owed.specs.Bits.{wordOf}
 use Rattle.owed.proofs.OwedWords.{word-begin, word-set, word-skip}
-use Rattle.owed.proofs.Tests.{end-bit}
+use Rattle.owed.proofs.ModelTests.{end-bit}
 use borrow.Author.Needs.{needs}
 use Rattle.owed.proofs.sets.ends_owed.Statement.{statement}
 use Rattle.owed.proofs.sets.ends_owed.Tie as tie

@@ -12,7 +12,7 @@ use Rattle.forms.specs.Stored.{netOf, stored}
 use Rattle.forms.proofs.States.{transitions-small, transitions-same, transitions-model}
 use Rattle.owed.specs.Bits.{wordOf}
 use Rattle.owed.proofs.OwedWords.{word-begin, word-set, word-skip}
-use Rattle.owed.proofs.Tests.{start-bit}
+use Rattle.owed.proofs.ModelTests.{start-bit}
 use borrow.Author.Needs.{needs}
 use Rattle.owed.proofs.sets.starts_owed.Statement.{statement}
 use Rattle.owed.proofs.sets.starts_owed.Tie as tie

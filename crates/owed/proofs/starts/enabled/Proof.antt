@@ -5,7 +5,7 @@ use Prim.Native.Nat.{ℕ}
 use lib.Dec.{eqb}
 use Rattle.forms.specs.Stored.{netOf, stored}
 use Rattle.owed.specs.Marks.{lackingPlace}
-use Rattle.owed.proofs.Tests.{lacking-none}
+use Rattle.owed.proofs.ModelTests.{lacking-none}
 use Rattle.owed.proofs.starts.enabled.Statement.{statement}
 use Rattle.owed.proofs.starts.enabled.Tie as tie
 

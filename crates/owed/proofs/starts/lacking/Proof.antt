@@ -1,30 +1,21 @@
 -- `starts::lacking` meets its contract: the weights looked at are the transition's.
 -- Assumes nothing.
 use mathlib.Core.Path.{_∙_}
-use native.Mathlib.Omega.{arith}
-use Rattle.forms.proofs.States.{places-small, places-same, transitions-small, transitions-same}
-use Rattle.forms.proofs.Inside.{row-fits, marks-inside}
-use Rattle.owed.proofs.Tests.{lacking-is, inputs-right}
+use Rattle.forms.proofs.States.{places-same}
+use Rattle.forms.proofs.Inside.{row-limits, inputs-inside}
+use Rattle.owed.proofs.ModelTests.{lacking-is, inputs-right}
 use Rattle.owed.proofs.starts.lacking.Statement.{statement}
 use Rattle.owed.proofs.starts.lacking.Tie as tie
 
 inputs-at-requires : tie.Need-inputs-at-requires
 inputs-at-requires c κs =
     let e = c .before .before in
-    let g = e .pre .0 .net-framed in
-    let net = e .args .net .now in (
-      omega (arith, places-small net (e .args .shape) g),
-      omega (arith, transitions-small net (e .args .shape) g, transitions-same net (e .args .shape) g, e .pre .1),
-    )
+    row-limits (e .args .net .now) (e .args .shape) (e .args .state .now) (e .pre .0) (e .args .t) (e .pre .1)
 
 short-place-requires : tie.Need-short-place-requires
 short-place-requires c κs =
     let e = c .before .before .before in
-    let a = e .args in (
-      omega (arith, places-small (a .net .now) (a .shape) (e .pre .0 .net-framed)),
-      omega (arith, row-fits (a .net .now) (a .shape) (a .state .now) (e .pre .0) (a .t) (e .pre .1), c .inputs-at .ensures),
-      marks-inside (a .net .now) (a .shape) (a .state .now) (e .pre .0),
-    )
+    inputs-inside (e .args .net .now) (e .args .shape) (e .args .state .now) (e .pre .0) (e .args .t) (e .pre .1) (c .inputs-at .result) (c .inputs-at .ensures)
 
 returns : tie.Need-returns
 returns c =

@@ -10,7 +10,7 @@ use Rattle.model.specs.Rules.{enabled?}
 use Rattle.model.proofs.Alls.{all-begin, all-turn, all-stop, all-end}
 use Rattle.forms.specs.Stored.{netOf, stored}
 use Rattle.forms.proofs.States.{transitions-same}
-use Rattle.owed.proofs.Tests.{no-start-is}
+use Rattle.owed.proofs.ModelTests.{no-start-is}
 use borrow.Author.Needs.{needs}
 use Rattle.owed.proofs.starts.no_start_owed.Statement.{statement}
 use Rattle.owed.proofs.starts.no_start_owed.Tie as tie
