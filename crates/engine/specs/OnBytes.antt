@@ -2,17 +2,21 @@
 -- are bytes.) Each part is stated in the file that it is taken from.
 -- Assumes nothing.
 use mathlib.Core.Path.{_≡_}
+use mathlib.Core.Logic.{_↔_}
 use mathlib.Core.List.{List}
 use Prim.Native.Nat.{ℕ}
 use Rattle.forms.specs.declared.fault.Checked.the-variants as checked
 use Rattle.forms.specs.Word.{Bytes}
-use Rattle.forms.specs.Logs.{checkLog}
+use Rattle.forms.specs.Logs.{IsLog, checkLog}
+use Rattle.forms.specs.AsListed.{AsListed}
 use Rattle.engine.specs.Examined.{examineNet, examineState}
 use Rattle.engine.specs.Steps.{StepsOf}
 use Rattle.engine.specs.Demands.{Passes, Demand2, Demand3, InitialGiven, ToldPasses, ToldFault}
 use Rattle.engine.specs.Faults.{Examines}
 
 pub record OnBytes : Type 0 where
+  -- what the bytes say is what document 01 lists, for every size
+  pub as-listed : AsListed
   -- demand 1: what is given is examined in document 01's order; nothing is accepted that is at fault; a fault is told, and nothing written
   pub examines : (net b log : List ℕ) → Examines net b log
   pub told-passes : (net b : List ℕ) → ToldPasses net b
@@ -22,4 +26,5 @@ pub record OnBytes : Type 0 where
   pub demand-3 : (net b : List ℕ) → Bytes b → Passes (examineState net b) → Demand3 net b
   -- the initial state, and the steps of a log
   pub initial : (net b : List ℕ) → Bytes net → Passes (examineNet net) → InitialGiven net b
+  pub log-good : (log : List ℕ) → (checkLog log ≡ checked.Good) ↔ IsLog log
   pub steps : (log : List ℕ) → checkLog log ≡ checked.Good → StepsOf log

@@ -13,7 +13,21 @@ use Rattle.forms.specs.Written.{checkRoom}
 use Rattle.forms.specs.Nets.{net-head?, some-weight?, checkRow, checkNet}
 use Rattle.forms.specs.States.{has-head?, none-past?, checkState}
 use Rattle.forms.specs.Logs.{is-log?, checkLog}
-use Rattle.forms.specs.Edges.{NetNumbers, StateNumbers, LogNumbers}
+use Rattle.forms.specs.Edges.{FaultNumbers, NetNumbers, StateNumbers, LogNumbers}
+
+pub fault-numbers : FaultNumbers
+fault-numbers = record {
+  net-frame = (refl, refl);
+  net-size = (refl, refl);
+  net-length = (refl, refl);
+  no-interval = λ t. (refl, refl);
+  no-input = λ t. (refl, refl);
+  no-output = λ t. (refl, refl);
+  no-room = (refl, refl);
+  state-frame = (refl, refl);
+  past-lfd = λ t. (refl, refl);
+  log-frame = (refl, refl);
+}
 
 pub net-numbers : NetNumbers
 unfolding rowAt checkNet net-head? begins? checkRow some-weight? inTurn netOf all word word32
@@ -34,6 +48,7 @@ net-numbers = record {
   lfd-64 = (refl, refl);
   no-input = (refl, refl);
   no-output = (refl, refl);
+  no-output-1 = (refl, refl);
   lowest-first = (refl, refl);
   five-before-six = (refl, refl);
 }

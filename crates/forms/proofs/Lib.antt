@@ -20,3 +20,4 @@ pub mod Inside
 pub mod Cases
 pub mod Edges
 pub mod Determined
+pub mod AsListed

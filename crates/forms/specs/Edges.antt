@@ -6,7 +6,10 @@ use mathlib.Core.List.{[], _∷_, _++_}
 use Prim.Native.Nat.{ℕ}
 use lib.ListN.{set, take}
 use Rattle.model.specs.Cases.{childrensRow}
+use Rattle.forms.specs.declared.fault.Fault.{Fault}
+use Rattle.forms.specs.declared.fault.Fault.the-variants as fault
 use Rattle.forms.specs.declared.fault.Checked.{Checked}
+use Rattle.forms.specs.declared.fault.Checked.the-variants as checked
 use Rattle.forms.specs.Checked.{numberOf, indexOf}
 use Rattle.forms.specs.Stored.{stateOf}
 use Rattle.forms.specs.Written.{checkRoom}
@@ -18,6 +21,22 @@ use Rattle.forms.specs.Cases.{rowNet, rowState, rowLog}
 -- the answer tells this number and this index
 abbrev pub Answers : Checked → ℕ → ℕ → Type 0
 Answers answer number index = (numberOf answer ≡ number) × (indexOf answer ≡ index)
+
+-- every fault, with document 01's number and index
+abbrev pub Tells : Fault → ℕ → ℕ → Type 0
+Tells why number index = Answers (checked.Bad why) number index
+
+pub record FaultNumbers : Type 0 where
+  pub net-frame : Tells fault.NetFrame 1 0
+  pub net-size : Tells fault.NetSize 2 0
+  pub net-length : Tells fault.NetLength 3 0
+  pub no-interval : (t : ℕ) → Tells (fault.NoInterval t) 4 t
+  pub no-input : (t : ℕ) → Tells (fault.NoInput t) 5 t
+  pub no-output : (t : ℕ) → Tells (fault.NoOutput t) 6 t
+  pub no-room : Tells fault.NoRoom 7 0
+  pub state-frame : Tells fault.StateFrame 8 0
+  pub past-lfd : (t : ℕ) → Tells (fault.PastLfd t) 9 t
+  pub log-frame : Tells fault.LogFrame 10 0
 
 pub record NetNumbers : Type 0 where
   pub good : Answers (checkNet rowNet) 0 0
@@ -36,6 +55,7 @@ pub record NetNumbers : Type 0 where
   pub lfd-64 : Answers (checkNet (set rowNet 22 64)) 4 1
   pub no-input : Answers (checkNet (set rowNet 24 0)) 5 1
   pub no-output : Answers (checkNet (set rowNet 19 0)) 6 0
+  pub no-output-1 : Answers (checkNet (set rowNet 28 0)) 6 1
   pub lowest-first : Answers (checkNet (set (set rowNet 19 0) 22 64)) 6 0
   pub five-before-six : Answers (checkNet (set (set rowNet 24 0) 28 0)) 5 1
 

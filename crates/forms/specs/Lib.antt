@@ -11,3 +11,4 @@ pub mod Logs
 pub mod Frame
 pub mod Cases
 pub mod Edges
+pub mod AsListed

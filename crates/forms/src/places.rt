@@ -1,4 +1,5 @@
-// Where things stand in the stored forms. Each place has one definition and one function; products stand here alone.
+// Where things stand in the stored forms, behind their heads of fixed bytes. Each place has one definition and one function; products
+// stand here alone.
 use model::age::Column;
 use model::net::Net;
 ghost use mathlib.Core.Path.{_≡_};

@@ -8,15 +8,6 @@ use text::line;
 ghost use Prim.Native.Nat.{_+_, _*_, _≤_};
 ghost use lib.ListN.{length};
 
-// A blank and a number.
-fn field(out: &mut [u8], at: usize, n: u64) -> usize
-    requires { ⌜ at + 21 ≤ length (now out) ⌝ }
-    ensures { λ r. ⌜ r ≤ at + 21 ⌝ }
-{
-    let from = line::put_byte(out, at, b' ');
-    line::put_decimal(out, from, n)
-}
-
 // A blank and a buffer in hex, or `-` for an empty one.
 fn buffer(out: &mut [u8], at: usize, state: &[u8]) -> usize
     requires { ⌜ at + 2 + 2 * length (now state) ≤ length (now out) ⌝ }
@@ -35,8 +26,8 @@ fn verdict(out: &mut [u8], name: &[u8], told: Verdict) -> usize
     ensures { λ r. ⌜ r ≤ 58 ⌝ }
 {
     let at = line::put_bytes(out, 0, name);
-    let number = field(out, at, told.number as u64);
-    field(out, number, told.index as u64)
+    let number = line::put_field(out, at, told.number as u64);
+    line::put_field(out, number, told.index as u64)
 }
 
 // A name and what a run or a walk tells.
@@ -45,10 +36,10 @@ fn course(out: &mut [u8], name: &[u8], told: Told) -> usize
     ensures { λ r. ⌜ r ≤ 100 ⌝ }
 {
     let at = line::put_bytes(out, 0, name);
-    let number = field(out, at, told.number as u64);
-    let index = field(out, number, told.index as u64);
-    let done = field(out, index, told.done as u64);
-    field(out, done, told.ticks as u64)
+    let number = line::put_field(out, at, told.number as u64);
+    let index = line::put_field(out, number, told.index as u64);
+    let done = line::put_field(out, index, told.done as u64);
+    line::put_field(out, done, told.ticks as u64)
 }
 
 fn check_net(out: &mut [u8], net: &[u8]) -> usize
@@ -74,20 +65,20 @@ fn check_state(out: &mut [u8], net: &[u8], state: &[u8]) -> usize
     verdict(out, b"check_state", calls::check_state(net, state))
 }
 
-fn event(out: &mut [u8], net: &[u8], state: &mut [u8], first: usize, second: usize) -> usize
+fn event(out: &mut [u8], net: &[u8], state: &mut [u8], first: u8, second: u8) -> usize
     requires { ⌜ (40000 ≤ length (now out)) × (length (now state) ≤ 16384) ⌝ }
     ensures { λ r. ⌜ r ≤ 39000 ⌝ }
 {
-    let told = calls::event(net, state, (first % 256) as u8, (second % 256) as u8);
+    let told = calls::event(net, state, first, second);
     let at = verdict(out, b"event", told);
     buffer(out, at, state)
 }
 
-fn back(out: &mut [u8], net: &[u8], state: &mut [u8], first: usize, second: usize) -> usize
+fn back(out: &mut [u8], net: &[u8], state: &mut [u8], first: u8, second: u8) -> usize
     requires { ⌜ (40000 ≤ length (now out)) × (length (now state) ≤ 16384) ⌝ }
     ensures { λ r. ⌜ r ≤ 39000 ⌝ }
 {
-    let told = calls::back(net, state, (first % 256) as u8, (second % 256) as u8);
+    let told = calls::back(net, state, first, second);
     let at = verdict(out, b"back", told);
     buffer(out, at, state)
 }
@@ -98,9 +89,9 @@ fn degree(out: &mut [u8], net: &[u8], state: &[u8], t: usize) -> usize
 {
     let told = calls::degree(net, state, t);
     let at = line::put_bytes(out, 0, b"degree");
-    let number = field(out, at, told.number as u64);
-    let index = field(out, number, told.index as u64);
-    field(out, index, told.degree as u64)
+    let number = line::put_field(out, at, told.number as u64);
+    let index = line::put_field(out, number, told.index as u64);
+    line::put_field(out, index, told.degree as u64)
 }
 
 // Two numbers: of the enabled transitions, and of the due ones.
@@ -108,8 +99,8 @@ fn pair(out: &mut [u8], at: usize, enabled: u64, due: u64) -> usize
     requires { ⌜ at + 42 ≤ length (now out) ⌝ }
     ensures { λ r. ⌜ r ≤ at + 42 ⌝ }
 {
-    let behind = field(out, at, enabled);
-    field(out, behind, due)
+    let behind = line::put_field(out, at, enabled);
+    line::put_field(out, behind, due)
 }
 
 // The two words, the number of set bits of each, the lowest of each, and the standing.
@@ -120,7 +111,7 @@ fn sets(out: &mut [u8], at: usize, starts: OwedSet, ends: OwedSet, standing: u8)
     let words = pair(out, at, starts.word, ends.word);
     let ones = pair(out, words, starts.count as u64, ends.count as u64);
     let lowest = pair(out, ones, starts.lowest as u64, ends.lowest as u64);
-    field(out, lowest, standing as u64)
+    line::put_field(out, lowest, standing as u64)
 }
 
 fn owed(out: &mut [u8], net: &[u8], state: &[u8]) -> usize
@@ -129,8 +120,8 @@ fn owed(out: &mut [u8], net: &[u8], state: &[u8]) -> usize
 {
     let told = calls::owed(net, state);
     let at = line::put_bytes(out, 0, b"owed");
-    let number = field(out, at, told.number as u64);
-    let index = field(out, number, told.index as u64);
+    let number = line::put_field(out, at, told.number as u64);
+    let index = line::put_field(out, number, told.index as u64);
     sets(out, index, told.starts, told.ends, told.standing)
 }
 
@@ -158,10 +149,10 @@ fn step(out: &mut [u8], log: &[u8], k: usize) -> usize
 {
     let told = calls::step_told(log, k);
     let at = line::put_bytes(out, 0, b"step");
-    let number = field(out, at, told.number as u64);
-    let index = field(out, number, told.index as u64);
-    let start = field(out, index, told.start as u64);
-    field(out, start, told.length as u64)
+    let number = line::put_field(out, at, told.number as u64);
+    let index = line::put_field(out, number, told.index as u64);
+    let start = line::put_field(out, index, told.start as u64);
+    line::put_field(out, start, told.length as u64)
 }
 
 // The answer to a request of a known kind, at the buffer's front.
@@ -181,8 +172,9 @@ fn fields(
         1 => check_net(out, net),
         2 => initial(out, net, state),
         3 => check_state(out, net, state),
-        4 => event(out, net, state, first, second),
-        5 => back(out, net, state, first, second),
+        // a request with more than a byte here is bad, and does not come this far
+        4 => event(out, net, state, (first % 256) as u8, (second % 256) as u8),
+        5 => back(out, net, state, (first % 256) as u8, (second % 256) as u8),
         6 => degree(out, net, state, first),
         7 => owed(out, net, state),
         8 => run(out, net, state, log),

@@ -1,6 +1,8 @@
 // Requests, as docs/ASK.md sets them down, read from standard input in blocks.
 use forms::words;
 use libc::STDIN_FILENO;
+ghost use mathlib.Core.Path.{_≡_};
+ghost use mathlib.Core.Bool.{false};
 ghost use Prim.Native.Nat.{_≤_};
 ghost use lib.ListN.{length};
 
@@ -44,7 +46,7 @@ pub struct Request {
 impl Feed {
     // Nothing more comes.
     pub fn closed() -> Feed
-        ensures { λ r. ⌜ (r .at ≤ 0) × (r .end ≤ 0) ⌝ }
+        ensures { λ r. ⌜ (r .at ≡ 0) × (r .end ≡ 0) × (r .open ≡ false) ⌝ }
     {
         Feed {
             at: 0,

@@ -11,13 +11,16 @@ ghost use lib.ListN.{length};
 ghost use Rattle.forms.specs.Places.{stateLength};
 ghost use Rattle.replay.specs.Replayed.{Shown};
 
-// A blank and a number.
-fn number(out: &mut [u8], at: usize, n: u64) -> usize
-    requires { ⌜ at + 21 ≤ length (now out) ⌝ }
-    ensures { λ r. ⌜ r ≤ at + 21 ⌝ }
+// The five fields of the result.
+fn fields(out: &mut [u8], at: usize, told: Replayed) -> usize
+    requires { ⌜ at + 105 ≤ length (now out) ⌝ }
+    ensures { λ r. ⌜ r ≤ at + 105 ⌝ }
 {
-    let from = line::put_byte(out, at, b' ');
-    line::put_decimal(out, from, n)
+    let number = line::put_field(out, at, told.number as u64);
+    let index = line::put_field(out, number, told.index as u64);
+    let done = line::put_field(out, index, told.done as u64);
+    let ticks = line::put_field(out, done, told.ticks as u64);
+    line::put_field(out, ticks, told.standing as u64)
 }
 
 // The line of the result, at the buffer's front.
@@ -26,12 +29,8 @@ pub fn result(out: &mut [u8], told: Replayed) -> usize
     ensures { λ r. ⌜ r ≤ 200 ⌝ }
 {
     let name = line::put_bytes(out, 0, b"result");
-    let numbered = number(out, name, told.number as u64);
-    let indexed = number(out, numbered, told.index as u64);
-    let done = number(out, indexed, told.done as u64);
-    let ticked = number(out, done, told.ticks as u64);
-    let stood = number(out, ticked, told.standing as u64);
-    line::put_byte(out, stood, b'\n')
+    let end = fields(out, name, told);
+    line::put_byte(out, end, b'\n')
 }
 
 // The line of the markings, place by place.
@@ -44,7 +43,7 @@ fn marks(out: &mut [u8], at: usize, state: &[u8], places: usize) -> usize
     let mut p = 0;
     while p < places {
         let tokens = words::read16(state, places::mark_at(p));
-        end = number(out, end, tokens as u64);
+        end = line::put_field(out, end, tokens as u64);
         p += 1;
     }
     line::put_byte(out, end, b'\n')
@@ -68,9 +67,9 @@ fn firings(out: &mut [u8], at: usize, t: usize, age: u8, count: usize) -> usize
     ensures { λ r. ⌜ r ≤ at + 100 ⌝ }
 {
     let name = line::put_bytes(out, at, b"run");
-    let transition = number(out, name, t as u64);
-    let aged = number(out, transition, age as u64);
-    let counted = number(out, aged, count as u64);
+    let transition = line::put_field(out, name, t as u64);
+    let aged = line::put_field(out, transition, age as u64);
+    let counted = line::put_field(out, aged, count as u64);
     line::put_byte(out, counted, b'\n')
 }
 

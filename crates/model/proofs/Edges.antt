@@ -7,7 +7,7 @@ use native.Mathlib.Omega.{arith}
 use Rattle.model.specs.Limits.{Held, durationLimit}
 use Rattle.model.specs.Net.{Accepted, HasInput, HasOutput}
 use Rattle.model.specs.Cases.{childrensRow, heavy}
-use Rattle.model.specs.Edges.{LimitsAtEdges, BytesAtEdges}
+use Rattle.model.specs.Edges.{LimitsAtEdges, ColumnsAtEdges, BytesAtEdges}
 use Rattle.model.proofs.Tab.{below-suc}
 
 pub limits-at-edges : LimitsAtEdges
@@ -19,10 +19,13 @@ limits-at-edges = record {
   tokens = (refl, refl, refl);
 }
 
+pub columns-at-edges : ColumnsAtEdges
+columns-at-edges = record { first = (refl, refl); last = (refl, refl) }
+
 pub bytes-at-edges : BytesAtEdges
 bytes-at-edges = record {
-  tick = (refl, refl);
-  start = (refl, refl, refl);
+  tick = (refl, refl, refl);
+  start = (refl, refl, refl, refl);
   end = (refl, refl);
   nothing = (refl, refl);
   of-the-log = refl;

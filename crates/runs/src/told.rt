@@ -3,8 +3,8 @@ use forms::fault::Fault;
 ghost use mathlib.Core.Path.{_≡_};
 ghost use Rattle.runs.specs.Runs.{toldFault};
 
-// Document 01's number and index; how many events were done or taken back, and how many ticks among them. The index is that of the event
-// refused, or, where all is accepted, how many events stand done.
+// Document 01's number and index; how many events were done or taken back, and how many ticks among them. The index is the event refused; the
+// transition for 4, 5, 6 and 9; how many events stand done where all is accepted; and else 0.
 pub struct Told {
     pub number: u8,
     pub index: usize,

@@ -1,14 +1,11 @@
--- Each public function's promise determines its answer and every byte of the buffer that is lent to it. `Determined` and `Leaves` are
--- those of the model, said here again since this crate stands below it.
+-- Each public function's promise determines its answer and every byte of the buffer that is lent to it.
 -- Assumes nothing.
 use mathlib.Core.Path.{_≡_, sym, ap, _∙_}
 use mathlib.Core.List.{List}
 use Prim.Native.Nat.{ℕ, _+_}
-use contract.Lifetimes.{Lfts}
 use denote.Ref.{now}
-use denote.Triple.Clauses.{AtExit}
-use borrow.Fn.Kinds.{PK, RK, Out, Dens, resT, endedOf}
 use lib.Seq.{paste}
+use Rattle.model.proofs.Determined.{Determined, LeavesOne}
 use Rattle.io.specs.Digits.{digits}
 use Rattle.text.specs.Lines.{Spelt}
 use Rattle.text.proofs.Figures.{fewest-once}
@@ -18,18 +15,10 @@ use Rattle.text.proofs.line.put_bytes.Reads as put-bytes
 use Rattle.text.proofs.line.put_bytes.Kinds as put-bytes-kinds
 use Rattle.text.proofs.line.put_decimal.Reads as put-decimal
 use Rattle.text.proofs.line.put_decimal.Kinds as put-decimal-kinds
+use Rattle.text.proofs.line.put_field.Reads as put-field
+use Rattle.text.proofs.line.put_field.Kinds as put-field-kinds
 use Rattle.text.proofs.line.put_hex.Reads as put-hex
 use Rattle.text.proofs.line.put_hex.Kinds as put-hex-kinds
-
-abbrev Determined : (n : ℕ) (ps : List (PK n)) (r : RK n) → Out n ps r → Type 0
-Determined n ps r promise =
-    (κs : Lfts n) (args : Dens κs ps) (x y : resT r κs .Denot) (s s′ : AtExit (endedOf n ps r) κs)
-    → promise κs args x s → promise κs args y s′ → x ≡ y
-
-abbrev Leaves : (n : ℕ) (ps : List (PK n)) (r : RK n) → Out n ps r → ((κs : Lfts n) → AtExit (endedOf n ps r) κs → List ℕ) → Type 0
-Leaves n ps r promise buffer =
-    (κs : Lfts n) (args : Dens κs ps) (x y : resT r κs .Denot) (s s′ : AtExit (endedOf n ps r) κs)
-    → promise κs args x s → promise κs args y s′ → buffer κs s ≡ buffer κs s′
 
 -- a number is spelt in one way
 module _ (before : List ℕ) (at n : ℕ) (after after′ : List ℕ) (end end′ : ℕ) (a : Spelt before at n after end) (b : Spelt before at n after′ end′) where
@@ -45,23 +34,29 @@ module _ (before : List ℕ) (at n : ℕ) (after after′ : List ℕ) (end end�
 pub put-byte-determined : Determined 1 put-byte-kinds.ps put-byte-kinds.r put-byte.Learnt
 put-byte-determined κs args x y s s′ p q = p .0 ∙ sym (q .0)
 
-pub put-byte-leaves : Leaves 1 put-byte-kinds.ps put-byte-kinds.r put-byte.Learnt (λ κs s. now (s .0))
+pub put-byte-leaves : LeavesOne 1 put-byte-kinds.ps put-byte-kinds.r put-byte.Learnt (λ κs s. now (s .0))
 put-byte-leaves κs args x y s s′ p q = p .1 ∙ sym (q .1)
 
 pub put-bytes-determined : Determined 2 put-bytes-kinds.ps put-bytes-kinds.r put-bytes.Learnt
 put-bytes-determined κs args x y s s′ p q = p .0 ∙ sym (q .0)
 
-pub put-bytes-leaves : Leaves 2 put-bytes-kinds.ps put-bytes-kinds.r put-bytes.Learnt (λ κs s. now (s .0))
+pub put-bytes-leaves : LeavesOne 2 put-bytes-kinds.ps put-bytes-kinds.r put-bytes.Learnt (λ κs s. now (s .0))
 put-bytes-leaves κs args x y s s′ p q = p .1 ∙ sym (q .1)
 
 pub put-decimal-determined : Determined 1 put-decimal-kinds.ps put-decimal-kinds.r put-decimal.Learnt
 put-decimal-determined κs args x y s s′ p q = spelt-ends _ _ _ (now (s .0)) (now (s′ .0)) x y (p .1) (q .1)
 
-pub put-decimal-leaves : Leaves 1 put-decimal-kinds.ps put-decimal-kinds.r put-decimal.Learnt (λ κs s. now (s .0))
+pub put-decimal-leaves : LeavesOne 1 put-decimal-kinds.ps put-decimal-kinds.r put-decimal.Learnt (λ κs s. now (s .0))
 put-decimal-leaves κs args x y s s′ p q = spelt-stands _ _ _ (now (s .0)) (now (s′ .0)) x y (p .1) (q .1)
+
+pub put-field-determined : Determined 1 put-field-kinds.ps put-field-kinds.r put-field.Learnt
+put-field-determined κs args x y s s′ p q = spelt-ends _ _ _ (now (s .0)) (now (s′ .0)) x y (p .1) (q .1)
+
+pub put-field-leaves : LeavesOne 1 put-field-kinds.ps put-field-kinds.r put-field.Learnt (λ κs s. now (s .0))
+put-field-leaves κs args x y s s′ p q = spelt-stands _ _ _ (now (s .0)) (now (s′ .0)) x y (p .1) (q .1)
 
 pub put-hex-determined : Determined 2 put-hex-kinds.ps put-hex-kinds.r put-hex.Learnt
 put-hex-determined κs args x y s s′ p q = p .0 ∙ sym (q .0)
 
-pub put-hex-leaves : Leaves 2 put-hex-kinds.ps put-hex-kinds.r put-hex.Learnt (λ κs s. now (s .0))
+pub put-hex-leaves : LeavesOne 2 put-hex-kinds.ps put-hex-kinds.r put-hex.Learnt (λ κs s. now (s .0))
 put-hex-leaves κs args x y s s′ p q = p .1 ∙ sym (q .1)

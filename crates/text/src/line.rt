@@ -41,6 +41,16 @@ pub fn put_decimal(out: &mut [u8], at: usize, n: u64) -> usize
     put_bytes(out, at, &digits[..places])
 }
 
+// A blank, and a number in decimal.
+pub fn put_field(out: &mut [u8], at: usize, n: u64) -> usize
+    requires { ⌜ at + 21 ≤ length (now out) ⌝ }
+    ensures { λ r. ⌜ r ≤ at + 21 ⌝ }
+    ensures { λ r. ⌜ Spelt (set (now (out .entry)) at 32) (at + 1) n (now (out .exit)) r ⌝ }
+{
+    let from = put_byte(out, at, b' ');
+    put_decimal(out, from, n)
+}
+
 // The bytes in hex, two digits each, in lower case.
 pub fn put_hex(out: &mut [u8], at: usize, bytes: &[u8]) -> usize
     requires { ⌜ at + 2 * length (now bytes) ≤ length (now out) ⌝ }

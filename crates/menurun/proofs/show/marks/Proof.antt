@@ -30,8 +30,8 @@ mark-at-requires c κs = search needs
 read16-requires : tie.Need-read16-requires Inv-loop μ-loop
 read16-requires c κs = search needs
 
-number-requires : tie.Need-number-requires Inv-loop μ-loop
-number-requires c κs = search needs
+put-field-requires : tie.Need-put-field-requires Inv-loop μ-loop
+put-field-requires c κs = search needs
 
 add-p : tie.Need-add-p Inv-loop μ-loop
 add-p c = search needs
@@ -62,7 +62,7 @@ marks-spec =
     loop-holds
     mark-at-requires
     read16-requires
-    number-requires
+    put-field-requires
     add-p
     loop-less
     loop-again

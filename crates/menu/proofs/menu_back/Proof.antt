@@ -1,0 +1,22 @@
+-- `menu_back` meets its contract: it tells the fields of the engine's answer, and leaves what the engine leaves.
+-- Assumes nothing.
+use mathlib.Core.Path.{ap}
+use borrow.Author.Needs.{needs}
+use Rattle.menu.specs.Fields.{verdictFields}
+use Rattle.menu.proofs.menu_back.Statement.{statement}
+use Rattle.menu.proofs.menu_back.Tie as tie
+
+back-requires : tie.Need-back-requires
+back-requires c κs = search needs
+
+cast-t9 : tie.Need-cast-t9
+cast-t9 c = search needs
+
+same-length : tie.Need-same-length
+same-length c = search needs
+
+returns : tie.Need-returns
+returns c = (ap verdictFields (c .before .before .before .before .back .ensures .0), c .before .before .before .before .back .ensures .1)
+
+pub menu-back-spec : {M : Type 1} → statement M
+menu-back-spec = tie.close (tie.spec back-requires cast-t9 same-length returns)

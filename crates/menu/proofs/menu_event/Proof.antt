@@ -1,0 +1,22 @@
+-- `menu_event` meets its contract: it tells the fields of the engine's answer, and leaves what the engine leaves.
+-- Assumes nothing.
+use mathlib.Core.Path.{ap}
+use borrow.Author.Needs.{needs}
+use Rattle.menu.specs.Fields.{verdictFields}
+use Rattle.menu.proofs.menu_event.Statement.{statement}
+use Rattle.menu.proofs.menu_event.Tie as tie
+
+event-requires : tie.Need-event-requires
+event-requires c κs = search needs
+
+cast-t9 : tie.Need-cast-t9
+cast-t9 c = search needs
+
+same-length : tie.Need-same-length
+same-length c = search needs
+
+returns : tie.Need-returns
+returns c = (ap verdictFields (c .before .before .before .before .event .ensures .0), c .before .before .before .before .event .ensures .1)
+
+pub menu-event-spec : {M : Type 1} → statement M
+menu-event-spec = tie.close (tie.spec event-requires cast-t9 same-length returns)

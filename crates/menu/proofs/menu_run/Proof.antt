@@ -1,0 +1,22 @@
+-- `menu_run` meets its contract: it tells the fields of the engine's answer, and leaves what the engine leaves.
+-- Assumes nothing.
+use mathlib.Core.Path.{ap}
+use borrow.Author.Needs.{needs}
+use Rattle.menu.specs.Fields.{toldFields}
+use Rattle.menu.proofs.menu_run.Statement.{statement}
+use Rattle.menu.proofs.menu_run.Tie as tie
+
+run-requires : tie.Need-run-requires
+run-requires c κs = search needs
+
+cast-t8 : tie.Need-cast-t8
+cast-t8 c = search needs
+
+same-length : tie.Need-same-length
+same-length c = search needs
+
+returns : tie.Need-returns
+returns c = (ap toldFields (c .before .before .before .before .run .ensures .0), c .before .before .before .before .run .ensures .1)
+
+pub menu-run-spec : {M : Type 1} → statement M
+menu-run-spec = tie.close (tie.spec run-requires cast-t8 same-length returns)

@@ -1,0 +1,22 @@
+-- `menu_walk` meets its contract: it tells the fields of the engine's answer, and leaves what the engine leaves.
+-- Assumes nothing.
+use mathlib.Core.Path.{ap}
+use borrow.Author.Needs.{needs}
+use Rattle.menu.specs.Fields.{toldFields}
+use Rattle.menu.proofs.menu_walk.Statement.{statement}
+use Rattle.menu.proofs.menu_walk.Tie as tie
+
+walk-requires : tie.Need-walk-requires
+walk-requires c κs = search needs
+
+cast-t9 : tie.Need-cast-t9
+cast-t9 c = search needs
+
+same-length : tie.Need-same-length
+same-length c = search needs
+
+returns : tie.Need-returns
+returns c = (ap toldFields (c .before .before .before .before .walk .ensures .0), c .before .before .before .before .walk .ensures .1)
+
+pub menu-walk-spec : {M : Type 1} → statement M
+menu-walk-spec = tie.close (tie.spec walk-requires cast-t9 same-length returns)

@@ -1,0 +1,51 @@
+-- The very numbers that the calls tell of the children's row net. Of any two fields of an answer, some line below tells different
+-- numbers: no two can be exchanged in the code and in the definitions together.
+-- Assumes nothing.
+use mathlib.Core.Path.{_≡_}
+use mathlib.Core.List.{List, [], _∷_}
+use Prim.Native.Nat.{ℕ}
+use lib.ListN.{set}
+use Rattle.forms.specs.Cases.{rowNet, rowState, rowLog}
+use Rattle.engine.specs.Calls.{netTold, stateTold, degreeTold, owedTold, runTold, runLeft, walkTold, stepTold}
+use Rattle.menu.specs.Fields.{verdictFields, degreeFields, owedFields, toldFields, stepFields}
+
+-- no token waits: byte 9 is the low byte of place 0
+abbrev spent : List ℕ
+spent = set rowState 9 0
+
+-- what K1 leaves: a token in place 2
+abbrev filled : List ℕ
+filled = set spent 13 1
+
+-- a token in place 1 enables transition 1, and transition 0 has a count at age 3, its lfd
+abbrev loaded : List ℕ
+loaded = set (set spent 11 1) 21 1
+
+-- transition 1 has a count at age 0, its lfd; and at age 1, above it
+abbrev filling : List ℕ
+filling = set spent 23 1
+
+abbrev overdue : List ℕ
+overdue = set spent 25 1
+
+-- place 0 holds 258 tokens
+abbrev rich : List ℕ
+rich = set (set rowState 8 1) 9 2
+
+pub record Edges : Type 0 where
+  -- accepted; and transition 1 with an lfd above 63
+  pub net : (verdictFields (netTold rowNet) ≡ 0 ∷ 0 ∷ []) × (verdictFields (netTold (set rowNet 22 64)) ≡ 4 ∷ 1 ∷ [])
+  pub state : verdictFields (stateTold rowNet overdue) ≡ 9 ∷ 1 ∷ []
+  pub degree : degreeFields (degreeTold rowNet rich 0) ≡ 0 ∷ 0 ∷ 258 ∷ []
+  pub no-degree : degreeFields (degreeTold rowNet overdue 0) ≡ 9 ∷ 1 ∷ 0 ∷ []
+  -- both words, how many are set in both, the lowest of both, the standing
+  pub start-owed : owedFields (owedTold rowNet loaded) ≡ 0 ∷ 0 ∷ 2 ∷ 1 ∷ 1 ∷ 1 ∷ 1 ∷ 0 ∷ 1 ∷ []
+  pub end-owed : owedFields (owedTold rowNet filling) ≡ 0 ∷ 0 ∷ 0 ∷ 2 ∷ 0 ∷ 1 ∷ 64 ∷ 1 ∷ 2 ∷ []
+  pub at-rest : owedFields (owedTold rowNet filled) ≡ 0 ∷ 0 ∷ 0 ∷ 0 ∷ 0 ∷ 0 ∷ 64 ∷ 64 ∷ 4 ∷ []
+  pub no-report : owedFields (owedTold rowNet overdue) ≡ 9 ∷ 1 ∷ 0 ∷ 0 ∷ 0 ∷ 0 ∷ 0 ∷ 0 ∷ 0 ∷ []
+  -- K1: five events, one tick; and its last two events walked back, so that three stand done
+  pub run : (toldFields (runTold rowNet rowState rowLog) ≡ 0 ∷ 5 ∷ 5 ∷ 1 ∷ []) × (runLeft rowNet rowState rowLog ≡ filled)
+  pub walk : toldFields (walkTold rowNet filled rowLog 2) ≡ 0 ∷ 3 ∷ 2 ∷ 0 ∷ []
+  -- step 1 is six bytes behind nine; there is no step 2
+  pub step : stepFields (stepTold rowLog 1) ≡ 0 ∷ 0 ∷ 9 ∷ 6 ∷ []
+  pub no-step : stepFields (stepTold rowLog 2) ≡ 23 ∷ 0 ∷ 0 ∷ 0 ∷ []

@@ -1,0 +1,36 @@
+-- The numbers that each call tells through the C interface, in the order of document 01: those of the engine's answer, field by field.
+-- Assumes nothing.
+use mathlib.Core.List.{List, [], _∷_}
+use Prim.Native.Nat.{ℕ}
+use Rattle.runs.specs.declared.told.Told.{Told}
+use Rattle.engine.specs.declared.answers.Verdict.{Verdict}
+use Rattle.engine.specs.declared.answers.DegreeTold.{DegreeTold}
+use Rattle.engine.specs.declared.answers.OwedTold.{OwedTold}
+use Rattle.engine.specs.declared.answers.StepTold.{StepTold}
+
+abbrev pub verdictFields : Verdict → List ℕ
+verdictFields told = told .number ∷ told .index ∷ []
+
+abbrev pub degreeFields : DegreeTold → List ℕ
+degreeFields told = told .number ∷ told .index ∷ told .degree ∷ []
+
+-- the starts owed are the enabled transitions, and the ends owed those that are due
+abbrev pub owedFields : OwedTold → List ℕ
+owedFields told =
+    told .number
+    ∷ told .index
+    ∷ told .starts .word
+    ∷ told .ends .word
+    ∷ told .starts .count
+    ∷ told .ends .count
+    ∷ told .starts .lowest
+    ∷ told .ends .lowest
+    ∷ told .standing
+    ∷ []
+
+-- of a run and of a walk back
+abbrev pub toldFields : Told → List ℕ
+toldFields told = told .number ∷ told .index ∷ told .done ∷ told .ticks ∷ []
+
+abbrev pub stepFields : StepTold → List ℕ
+stepFields told = told .number ∷ told .index ∷ told .start ∷ told .length ∷ []

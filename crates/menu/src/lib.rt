@@ -1,0 +1,148 @@
+// The calls of the engine for programs in C and other languages, as a static library; include/menu.h declares them. A slice is a pointer
+// and a length there. Each function tells its answer in a lent array of numbers, in the order of document 01, so that one form serves
+// every call and no struct's layout is agreed upon twice. None asks anything of the bytes that it is given.
+use engine::calls;
+ghost use mathlib.Core.Path.{_≡_};
+ghost use Rattle.engine.specs.Calls.{netTold, stateTold, initialTold, initialLeft, eventTold, eventLeft, backTold, backLeft};
+ghost use Rattle.engine.specs.Calls.{degreeTold, owedTold, runTold, runLeft, walkTold, walkLeft, stepTold};
+ghost use Rattle.menu.specs.Fields.{verdictFields, degreeFields, owedFields, toldFields, stepFields};
+
+// Checks a net: 1 to 6.
+#[no_mangle]
+pub extern "C" fn menu_check_net(net: &[u8], answer: &mut [u64; 2])
+    ensures { λ _. ⌜ now (answer .exit) ≡ verdictFields (netTold (now (net .entry))) ⌝ }
+{
+    let told = calls::check_net(net);
+    *answer = [told.number as u64, told.index as u64];
+}
+
+// Writes the initial state of a net at the front of the buffer: 1 to 7.
+#[no_mangle]
+pub extern "C" fn menu_initial(net: &[u8], state: &mut [u8], answer: &mut [u64; 2])
+    ensures { λ _. ⌜ now (answer .exit) ≡ verdictFields (initialTold (now (net .entry)) (now (state .entry))) ⌝ }
+    ensures { λ _. ⌜ now (state .exit) ≡ initialLeft (now (net .entry)) (now (state .entry)) ⌝ }
+{
+    let told = calls::initial(net, state);
+    *answer = [told.number as u64, told.index as u64];
+}
+
+// Checks a state of a net: 1 to 6, 8, 9.
+#[no_mangle]
+pub extern "C" fn menu_check_state(net: &[u8], state: &[u8], answer: &mut [u64; 2])
+    ensures { λ _. ⌜ now (answer .exit) ≡ verdictFields (stateTold (now (net .entry)) (now (state .entry))) ⌝ }
+{
+    let told = calls::check_state(net, state);
+    *answer = [told.number as u64, told.index as u64];
+}
+
+// Does one event, given by its two bytes: 1 to 6, 8, 9, 11 to 20.
+#[no_mangle]
+pub extern "C" fn menu_event(
+    net: &[u8],
+    state: &mut [u8],
+    first: u8,
+    second: u8,
+    answer: &mut [u64; 2],
+)
+    ensures { λ _. ⌜ now (answer .exit) ≡ verdictFields (eventTold (now (net .entry)) (now (state .entry)) first second) ⌝ }
+    ensures { λ _. ⌜ now (state .exit) ≡ eventLeft (now (net .entry)) (now (state .entry)) first second ⌝ }
+{
+    let told = calls::event(net, state, first, second);
+    *answer = [told.number as u64, told.index as u64];
+}
+
+// Takes one event back: 1 to 6, 8, 9, 11, 12, 21.
+#[no_mangle]
+pub extern "C" fn menu_back(
+    net: &[u8],
+    state: &mut [u8],
+    first: u8,
+    second: u8,
+    answer: &mut [u64; 2],
+)
+    ensures { λ _. ⌜ now (answer .exit) ≡ verdictFields (backTold (now (net .entry)) (now (state .entry)) first second) ⌝ }
+    ensures { λ _. ⌜ now (state .exit) ≡ backLeft (now (net .entry)) (now (state .entry)) first second ⌝ }
+{
+    let told = calls::back(net, state, first, second);
+    *answer = [told.number as u64, told.index as u64];
+}
+
+// How many times transition t is enabled: 1 to 6, 8, 9, 12.
+#[no_mangle]
+pub extern "C" fn menu_degree(net: &[u8], state: &[u8], t: usize, answer: &mut [u64; 3])
+    ensures { λ _. ⌜ now (answer .exit) ≡ degreeFields (degreeTold (now (net .entry)) (now (state .entry)) t) ⌝ }
+{
+    let told = calls::degree(net, state, t);
+    *answer = [told.number as u64, told.index as u64, told.degree as u64];
+}
+
+// What a state owes, and how it stands: 1 to 6, 8, 9.
+#[no_mangle]
+pub extern "C" fn menu_owed(net: &[u8], state: &[u8], answer: &mut [u64; 9])
+    ensures { λ _. ⌜ now (answer .exit) ≡ owedFields (owedTold (now (net .entry)) (now (state .entry))) ⌝ }
+{
+    let told = calls::owed(net, state);
+    let starts = told.starts;
+    let ends = told.ends;
+    *answer = [
+        told.number as u64,
+        told.index as u64,
+        starts.word,
+        ends.word,
+        starts.count as u64,
+        ends.count as u64,
+        starts.lowest as u64,
+        ends.lowest as u64,
+        told.standing as u64,
+    ];
+}
+
+// Runs a log: 1 to 6, 8 to 20.
+#[no_mangle]
+pub extern "C" fn menu_run(net: &[u8], state: &mut [u8], log: &[u8], answer: &mut [u64; 4])
+    ensures { λ _. ⌜ now (answer .exit) ≡ toldFields (runTold (now (net .entry)) (now (state .entry)) (now (log .entry))) ⌝ }
+    ensures { λ _. ⌜ now (state .exit) ≡ runLeft (now (net .entry)) (now (state .entry)) (now (log .entry)) ⌝ }
+{
+    let told = calls::run(net, state, log);
+    *answer = [
+        told.number as u64,
+        told.index as u64,
+        told.done as u64,
+        told.ticks as u64,
+    ];
+}
+
+// Walks the last n events of a log back: 1 to 6, 8 to 12, 21, 22.
+#[no_mangle]
+pub extern "C" fn menu_walk(
+    net: &[u8],
+    state: &mut [u8],
+    log: &[u8],
+    n: usize,
+    answer: &mut [u64; 4],
+)
+    ensures { λ _. ⌜ now (answer .exit) ≡ toldFields (walkTold (now (net .entry)) (now (state .entry)) (now (log .entry)) n) ⌝ }
+    ensures { λ _. ⌜ now (state .exit) ≡ walkLeft (now (net .entry)) (now (state .entry)) (now (log .entry)) n ⌝ }
+{
+    let told = calls::walk(net, state, log, n);
+    *answer = [
+        told.number as u64,
+        told.index as u64,
+        told.done as u64,
+        told.ticks as u64,
+    ];
+}
+
+// Where step k of a log stands in it: 10, 23. The caller has the log, so a start and a length say what the part itself would.
+#[no_mangle]
+pub extern "C" fn menu_step(log: &[u8], k: usize, answer: &mut [u64; 4])
+    ensures { λ _. ⌜ now (answer .exit) ≡ stepFields (stepTold (now (log .entry)) k) ⌝ }
+{
+    let told = calls::step_told(log, k);
+    *answer = [
+        told.number as u64,
+        told.index as u64,
+        told.start as u64,
+        told.length as u64,
+    ];
+}

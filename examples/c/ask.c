@@ -1,0 +1,187 @@
+/*
+ * Answers a stream of requests on standard input as the program menuask does (docs/ASK.md), with every call of menu.h. Nothing
+ * proves that a header says what a library has: tests/run compares this program with the independent reference, call by call.
+ *
+ * usage: ask < REQUESTS
+ */
+#include <stdio.h>
+#include <stdlib.h>
+
+#include "menu.h"
+
+typedef struct slice {
+    uint8_t *bytes;
+    size_t length;
+    size_t capacity;
+} slice;
+
+static uint8_t net_bytes[16384], state_bytes[16384], log_bytes[65536];
+static slice net = {net_bytes, 0, sizeof net_bytes};
+static slice state = {state_bytes, 0, sizeof state_bytes};
+static slice events = {log_bytes, 0, sizeof log_bytes};
+
+static void bad_request(void)
+{
+    printf("bad request\n");
+    exit(0);
+}
+
+static uint32_t read_number(void)
+{
+    uint32_t n = 0;
+
+    for (int i = 0; i < 4; i++) {
+        int byte = getchar();
+        if (byte == EOF)
+            bad_request();
+        n = 256 * n + (uint32_t)byte;
+    }
+    return n;
+}
+
+static uint8_t read_byte(void)
+{
+    uint32_t n = read_number();
+
+    if (n > 255)
+        bad_request();
+    return (uint8_t)n;
+}
+
+static void read_slice(slice *s)
+{
+    s->length = read_number();
+    if (s->length > s->capacity || fread(s->bytes, 1, s->length, stdin) < s->length)
+        bad_request();
+}
+
+/* The call's name and the fields of its answer. */
+static void tell(const char *name, const void *answer, size_t size)
+{
+    const uint64_t *field = answer;
+
+    printf("%s", name);
+    for (size_t i = 0; i < size / sizeof *field; i++)
+        printf(" %llu", (unsigned long long)field[i]);
+}
+
+/* The whole buffer as the call left it. */
+static void show_state(void)
+{
+    printf(state.length == 0 ? " -" : " ");
+    for (size_t i = 0; i < state.length; i++)
+        printf("%02x", state.bytes[i]);
+}
+
+static void answer_net(void)
+{
+    menu_verdict told;
+
+    menu_check_net(net.bytes, net.length, &told);
+    tell("check_net", &told, sizeof told);
+}
+
+static void answer_initial(void)
+{
+    menu_verdict told;
+
+    menu_initial(net.bytes, net.length, state.bytes, state.length, &told);
+    tell("initial", &told, sizeof told);
+    show_state();
+}
+
+static void answer_state(void)
+{
+    menu_verdict told;
+
+    menu_check_state(net.bytes, net.length, state.bytes, state.length, &told);
+    tell("check_state", &told, sizeof told);
+}
+
+static void answer_event(void)
+{
+    menu_verdict told;
+    uint8_t first = read_byte(), second = read_byte();
+
+    menu_event(net.bytes, net.length, state.bytes, state.length, first, second, &told);
+    tell("event", &told, sizeof told);
+    show_state();
+}
+
+static void answer_back(void)
+{
+    menu_verdict told;
+    uint8_t first = read_byte(), second = read_byte();
+
+    menu_back(net.bytes, net.length, state.bytes, state.length, first, second, &told);
+    tell("back", &told, sizeof told);
+    show_state();
+}
+
+static void answer_degree(void)
+{
+    menu_degree_told told;
+
+    menu_degree(net.bytes, net.length, state.bytes, state.length, read_number(), &told);
+    tell("degree", &told, sizeof told);
+}
+
+static void answer_owed(void)
+{
+    menu_owed_told told;
+
+    menu_owed(net.bytes, net.length, state.bytes, state.length, &told);
+    tell("owed", &told, sizeof told);
+}
+
+static void answer_run(void)
+{
+    menu_told told;
+
+    read_slice(&events);
+    menu_run(net.bytes, net.length, state.bytes, state.length, events.bytes, events.length, &told);
+    tell("run", &told, sizeof told);
+    show_state();
+}
+
+static void answer_walk(void)
+{
+    menu_told told;
+
+    read_slice(&events);
+    menu_walk(net.bytes, net.length, state.bytes, state.length, events.bytes, events.length, read_number(), &told);
+    tell("walk", &told, sizeof told);
+    show_state();
+}
+
+static void answer_step(void)
+{
+    menu_step_told told;
+
+    read_slice(&events);
+    menu_step(events.bytes, events.length, read_number(), &told);
+    tell("step", &told, sizeof told);
+}
+
+static void (*const calls[])(void) = {
+    answer_net, answer_initial, answer_state, answer_event, answer_back, answer_degree, answer_owed, answer_run, answer_walk, answer_step,
+};
+
+int main(void)
+{
+    int call;
+
+    while ((call = getchar()) != EOF) {
+        if (call < 1 || call > 10)
+            bad_request();
+        /* all but the step begin with a net, and all of these but the first go on with a state */
+        if (call < 10)
+            read_slice(&net);
+        if (call > 1 && call < 10)
+            read_slice(&state);
+        calls[call - 1]();
+        printf("\n");
+        fflush(stdout);
+    }
+    return 0;
+}

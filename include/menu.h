@@ -1,0 +1,187 @@
+/*
+ * The calls of the menu engine, for C (C99 and later) and C++.
+ *
+ * Link with libmenu.a, which is compiled for x86-64 Linux. The functions are proved: each answers and writes exactly what the
+ * scope of the build (document 01) says, whatever bytes it is given, and each ends. docs/C.md is a page on how to use them.
+ *
+ * STORED FORMS. All numbers are big-endian. Each form begins with a version byte, 1, and the length of the whole form in 4 bytes.
+ *
+ *   net    version, length, P (1 byte), T (1 byte); P initial markings of 2 bytes; then for each transition sfd, lfd, P input
+ *          weights and P output weights, 1 byte each. 7 + 2P + T(2 + 2P) bytes.
+ *   state  version, length, P, T, D (1 byte each); P markings of 2 bytes; for each transition, D counts of 2 bytes, by age.
+ *          D is the largest lfd plus 1. 8 + 2P + 2TD bytes.
+ *   log    version, length, then 2 bytes for each event: 0 0 is a tick; 1 + t and 0 the start of transition t; 65 + t and an age
+ *          the end of a firing of transition t that is that many ticks old.
+ *
+ * P, the places, and T, the transitions, are 1 to 64 and numbered from 0. A firing of a transition lasts sfd to lfd ticks.
+ *
+ * WHAT A CALLER LENDS
+ *
+ * - Each buffer is a pointer and then its length in bytes. What is wrong with the bytes in it is told by a number; no call
+ *   asks that they are checked before.
+ * - `net` and `log` are exactly the form: a longer buffer is refused. They are only read.
+ * - `state` may be longer than the state, which stands at its front. The bytes behind it are never written, and
+ *   MENU_STATE_BYTES_MAX bytes are enough for every net.
+ * - `answer` is one struct of the call's own type. Every call writes all of its fields.
+ * - Pointers are not NULL, not even where the length is 0, and as many bytes as told lie behind them. `answer`, and `state` where
+ *   it is not const, overlap no other buffer of the call. While it runs no one else uses these two or writes the others.
+ *
+ * WHAT A CALL LEAVES
+ *
+ * - Accepted (number 0): the state after the event, the log or the walk.
+ * - Refused by 1 to 10, 22 or 23: nothing was written but the answer.
+ * - Refused by another number: the state that stood when the refused event had its turn, to be done or to be taken back.
+ * - In a refused answer all fields but number and index are 0. A run or a walk that stopped at an event tells how far it came.
+ *
+ * The functions keep nothing from one call to the next, use no heap and do no input or output. Several threads may call them at
+ * the same time, each with a state and an answer of its own.
+ */
+#ifndef MENU_H
+#define MENU_H
+
+#include <stddef.h>
+#include <stdint.h>
+
+#ifdef __cplusplus
+extern "C" {
+#endif
+
+/* LIMITS */
+
+#define MENU_PLACES_MAX 64
+#define MENU_TRANSITIONS_MAX 64
+#define MENU_TICKS_MAX 63          /* the longest lfd */
+#define MENU_EVENTS_MAX 24000      /* of a log */
+#define MENU_TOKENS_MAX 65535      /* of a place, and the firings of one transition at one age */
+
+#define MENU_NET_BYTES_MAX 8455    /* the longest lawful net */
+#define MENU_STATE_BYTES_MAX 8328  /* its state */
+#define MENU_LOG_BYTES_MAX 48005   /* the longest lawful log */
+
+/*
+ * NUMBERS, the field `number` of each answer. Of several faults the first is told: of the net, the room, the state, the log, the
+ * request, and then event by event. `index` is the transition for 4, 5, 6 and 9, and otherwise 0 but for a run and a walk.
+ */
+enum menu_number {
+    MENU_ACCEPTED = 0,
+    /* the net */
+    MENU_NET_FRAME = 1,            /* under 7 bytes, version not 1, or length not the buffer's */
+    MENU_NET_SIZE = 2,             /* P or T not 1 to 64 */
+    MENU_NET_LENGTH = 3,           /* length not the formula's */
+    MENU_NO_INTERVAL = 4,          /* a transition's lfd is below its sfd or above 63 */
+    MENU_NO_INPUT = 5,             /* a transition has no input weight above 0 */
+    MENU_NO_OUTPUT = 6,            /* a transition has no output weight above 0 */
+    /* the state */
+    MENU_NO_ROOM = 7,              /* the buffer is shorter than the initial state */
+    MENU_STATE_FRAME = 8,          /* under 8 bytes, wrong version, length, P, T or D, or length beyond the buffer */
+    MENU_PAST_LFD = 9,             /* a count above its transition's lfd */
+    /* the log */
+    MENU_LOG_FRAME = 10,           /* under 5 or over 48,005 bytes, version not 1, length not the buffer's, or half an event */
+    /* an event */
+    MENU_MALFORMED = 11,           /* first byte 129 to 255, or second byte not 0 for a tick or a start */
+    MENU_NO_SUCH_TRANSITION = 12,  /* transition not below T */
+    MENU_NOT_ENABLED = 13,         /* start: some place has fewer tokens than the input weight */
+    MENU_COUNT_FULL = 14,          /* start: the count at age 0 is 65,535 */
+    MENU_OUTSIDE_INTERVAL = 15,    /* end: the age is below sfd or above lfd */
+    MENU_NONE_OF_THAT_AGE = 16,    /* end: no firing of that age runs */
+    MENU_PLACE_FULL = 17,          /* end: a place would pass 65,535 tokens */
+    MENU_TICK_START_OWED = 18,     /* tick: a transition is enabled, and must start first */
+    MENU_TICK_END_OWED = 19,       /* tick: a firing is at its lfd, and must end first */
+    MENU_NOTHING_RUNNING = 20,     /* tick: nothing is running */
+    MENU_NO_STATE_BEFORE = 21,     /* back: no lawful state leads here by this event */
+    /* the request */
+    MENU_TOO_MANY = 22,            /* walk: more events asked than the log has */
+    MENU_NO_SUCH_STEP = 23         /* step: the log has no such step */
+};
+
+/* STANDINGS, the field `standing` of an owed report: the first that holds. It is 0 where the report is refused. */
+enum menu_standing {
+    MENU_START_OWED = 1,           /* a transition is enabled */
+    MENU_END_OWED = 2,             /* a firing is at its lfd */
+    MENU_FREE_TO_TICK = 3,         /* running and free to tick */
+    MENU_AT_REST = 4               /* nothing is enabled and nothing is running */
+};
+
+/* ANSWERS. The library writes the fields as one array of numbers, so their type and their order are fixed. */
+
+typedef struct menu_verdict {
+    uint64_t number;
+    uint64_t index;
+} menu_verdict;
+
+typedef struct menu_degree_told {
+    uint64_t number;
+    uint64_t index;
+    uint64_t degree;               /* how many times the transition is enabled */
+} menu_degree_told;
+
+typedef struct menu_owed_told {
+    uint64_t number;
+    uint64_t index;
+    uint64_t enabled;              /* bit t: transition t is enabled, so its start is owed */
+    uint64_t due;                  /* bit t: transition t has a firing at its lfd, so its end is owed */
+    uint64_t enabled_count;        /* how many bits are set */
+    uint64_t due_count;
+    uint64_t enabled_lowest;       /* the lowest bit that is set, or 64 */
+    uint64_t due_lowest;
+    uint64_t standing;             /* enum menu_standing */
+} menu_owed_told;
+
+typedef struct menu_told {
+    uint64_t number;
+    uint64_t index;                /* the event refused, counted from the log's front; or, where all is accepted, how many events
+                                      stand done: all of a run's, and those that a walk did not take back */
+    uint64_t done;                 /* events done or taken back */
+    uint64_t ticks;                /* ticks among those */
+} menu_told;
+
+typedef struct menu_step_told {
+    uint64_t number;
+    uint64_t index;
+    uint64_t start;                /* the step's first byte, counted from the log's first byte */
+    uint64_t length;               /* its bytes, two for each event */
+} menu_step_told;
+
+/* CALLS */
+
+/* Checks a net. Tells 0 to 6. */
+void menu_check_net(const uint8_t *net, size_t net_length, menu_verdict *answer);
+
+/* Writes the initial state of a net at the front of `state`, over whatever stands there. Tells 0 to 7. */
+void menu_initial(const uint8_t *net, size_t net_length, uint8_t *state, size_t state_length, menu_verdict *answer);
+
+/* Checks that a state is lawful for a net. Tells 0 to 6, 8, 9. */
+void menu_check_state(const uint8_t *net, size_t net_length, const uint8_t *state, size_t state_length, menu_verdict *answer);
+
+/* Does one event, given by its two bytes. Tells 0 to 6, 8, 9, 11 to 20. */
+void menu_event(const uint8_t *net, size_t net_length, uint8_t *state, size_t state_length, uint8_t first, uint8_t second,
+                menu_verdict *answer);
+
+/* Takes one event back: leaves the only state that leads here by it. Tells 0 to 6, 8, 9, 11, 12, 21. */
+void menu_back(const uint8_t *net, size_t net_length, uint8_t *state, size_t state_length, uint8_t first, uint8_t second,
+               menu_verdict *answer);
+
+/* How many times transition t is enabled. Tells 0 to 6, 8, 9, 12. */
+void menu_degree(const uint8_t *net, size_t net_length, const uint8_t *state, size_t state_length, size_t t,
+                 menu_degree_told *answer);
+
+/* What a state owes, and how it stands. Tells 0 to 6, 8, 9. */
+void menu_owed(const uint8_t *net, size_t net_length, const uint8_t *state, size_t state_length, menu_owed_told *answer);
+
+/* Runs a log from a state, and stops at the first event that is refused. Tells 0 to 6, 8 to 20. */
+void menu_run(const uint8_t *net, size_t net_length, uint8_t *state, size_t state_length, const uint8_t *log, size_t log_length,
+              menu_told *answer);
+
+/* Takes the last n events of a log back, the last one first, and stops at the first that cannot be. Tells 0 to 6, 8 to 12, 21, 22. */
+void menu_walk(const uint8_t *net, size_t net_length, uint8_t *state, size_t state_length, const uint8_t *log, size_t log_length,
+               size_t n, menu_told *answer);
+
+/* Where step k of a log stands in it: the events after the k-th tick and before the next one. Step 0 comes before the first tick,
+ * and a log with n ticks has n + 1 steps. Whether the events are well formed is not asked. Tells 0, 10, 23. */
+void menu_step(const uint8_t *log, size_t log_length, size_t k, menu_step_told *answer);
+
+#ifdef __cplusplus
+}
+#endif
+
+#endif
