@@ -10,6 +10,7 @@ use forms::fault::Checked;
 use forms::initial;
 use forms::log;
 use forms::net;
+use forms::places;
 use logs::steps;
 use logs::steps::Span;
 use model::answer::Refusal;
@@ -118,7 +119,7 @@ pub fn run(net: &[u8], state: &mut [u8], log: &[u8]) -> Told
     ensures { λ _. ⌜ now (state .exit) ≡ runLeft (now (net .entry)) (now (state .entry)) (now (log .entry)) ⌝ }
 {
     match examine::examine_log(net, state, log) {
-        Examined::Fit(shape) => run::run(net, shape, state, &log[5..]),
+        Examined::Fit(shape) => run::run(net, shape, state, &log[places::EVENTS_AT..]),
         Examined::Unfit(fault) => Told::unfit(fault),
     }
 }
@@ -129,7 +130,7 @@ pub fn walk(net: &[u8], state: &mut [u8], log: &[u8], n: usize) -> Told
     ensures { λ _. ⌜ now (state .exit) ≡ walkLeft (now (net .entry)) (now (state .entry)) (now (log .entry)) n ⌝ }
 {
     match examine::examine_log(net, state, log) {
-        Examined::Fit(shape) => walk::walk(net, shape, state, &log[5..], n),
+        Examined::Fit(shape) => walk::walk(net, shape, state, &log[places::EVENTS_AT..], n),
         Examined::Unfit(fault) => Told::unfit(fault),
     }
 }
@@ -142,11 +143,11 @@ pub fn step_told(log: &[u8], k: usize) -> StepTold
     let Checked::Good = checked else {
         return StepTold::refused(checked.number());
     };
-    match steps::span_of(&log[5..], k) {
+    match steps::span_of(&log[places::EVENTS_AT..], k) {
         Span::Part(from, to) => StepTold {
             number: 0,
             index: 0,
-            start: 5 + from,
+            start: places::EVENTS_AT + from,
             length: to - from,
         },
         Span::Nothing => StepTold::refused(NO_SUCH_STEP),

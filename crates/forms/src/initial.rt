@@ -20,9 +20,9 @@ fn write_head(shape: Net, state: &mut [u8])
     ensures { λ _. ⌜ now (state .exit) ≡ headed (shape .places) (shape .transitions) (shape .width) (now (state .entry)) ⌝ }
 {
     state[0] = begins::VERSION;
-    state[5] = shape.places as u8;
-    state[6] = shape.transitions as u8;
-    state[7] = shape.width as u8;
+    state[places::PLACES_AT] = shape.places as u8;
+    state[places::TRANSITIONS_AT] = shape.transitions as u8;
+    state[places::WIDTH_AT] = shape.width as u8;
     words::write32(state, 1, places::state_length(shape));
 }
 

@@ -45,7 +45,7 @@ fn check_row(net: &[u8], t: usize) -> Checked
     requires { ⌜ (7 ≤ length (now net)) × (t < 256) × (rowAt (byte (now net) 5) t + rowLength (byte (now net) 5) ≤ length (now net)) ⌝ }
     ensures { λ r. ⌜ r ≡ checkRow (netOf (now (net .entry))) t ⌝ }
 {
-    let places = words::wide(net[5]);
+    let places = words::wide(net[places::PLACES_AT]);
     let sfd = words::wide(net[places::row_at(places, t)]);
     let lfd = words::wide(net[places::lfd_at(places, t)]);
     if !Net::is_interval(sfd, lfd) {
@@ -65,7 +65,7 @@ fn check_rows(net: &[u8]) -> Checked
     requires { ⌜ (7 ≤ length (now net)) × (rowAt (byte (now net) 5) (byte (now net) 6) ≤ length (now net)) ⌝ }
     ensures { λ r. ⌜ r ≡ inTurn (checkRow (netOf (now (net .entry)))) 0 (byte (now (net .entry)) 6) ⌝ }
 {
-    let transitions = words::wide(net[6]);
+    let transitions = words::wide(net[places::TRANSITIONS_AT]);
     let mut t = 0;
     while t < transitions {
         let answer = check_row(net, t);
@@ -82,7 +82,7 @@ pub fn sfd(net: &[u8], t: usize) -> usize
     requires { ⌜ IsNet (now net) × (t < byte (now net) 6) ⌝ }
     ensures { λ r. ⌜ r ≡ netOf (now (net .entry)) .sfd t ⌝ }
 {
-    words::wide(net[places::row_at(words::wide(net[5]), t)])
+    words::wide(net[places::row_at(words::wide(net[places::PLACES_AT]), t)])
 }
 
 // The longest duration of transition t of a checked net. The bound leaves room for every width that fits its byte.
@@ -90,7 +90,7 @@ pub fn lfd(net: &[u8], t: usize) -> usize
     requires { ⌜ IsNet (now net) × (t < byte (now net) 6) ⌝ }
     ensures { λ r. ⌜ (r ≡ netOf (now (net .entry)) .lfd t) × (r < 255) ⌝ }
 {
-    words::wide(net[places::lfd_at(words::wide(net[5]), t)])
+    words::wide(net[places::lfd_at(words::wide(net[places::PLACES_AT]), t)])
 }
 
 // The shape of a checked net: its width is one more than the longest duration.
@@ -98,8 +98,8 @@ pub fn shape_of(net: &[u8]) -> Net
     requires { ⌜ IsNet (now net) ⌝ }
     ensures { λ r. ⌜ HasShape (netOf (now (net .entry))) r ⌝ }
 {
-    let places = words::wide(net[5]);
-    let transitions = words::wide(net[6]);
+    let places = words::wide(net[places::PLACES_AT]);
+    let transitions = words::wide(net[places::TRANSITIONS_AT]);
     let mut longest = 0;
     let mut t = 0;
     while t < transitions {
@@ -119,8 +119,8 @@ pub fn check_net(net: &[u8]) -> Checked
     if !has_head(net) {
         return Checked::Bad(Fault::NetFrame);
     }
-    let places = words::wide(net[5]);
-    let transitions = words::wide(net[6]);
+    let places = words::wide(net[places::PLACES_AT]);
+    let transitions = words::wide(net[places::TRANSITIONS_AT]);
     if !Net::sized(places, transitions) {
         return Checked::Bad(Fault::NetSize);
     }

@@ -6,6 +6,16 @@ ghost use mathlib.Core.Path.{_≡_};
 ghost use Prim.Native.Nat.{_*_, _<_, _≤_};
 ghost use Rattle.forms.specs.Places.{initialAt, rowAt, lfdAt, inputsAt, outputsAt, markAt, clockAt, countAt, stateLength};
 
+// The bytes of a head behind version and length: P and T of a net or a state, and D of a state.
+pub const PLACES_AT: usize = 5;
+
+pub const TRANSITIONS_AT: usize = 6;
+
+pub const WIDTH_AT: usize = 7;
+
+// The events follow the fifth byte of a log.
+pub const EVENTS_AT: usize = 5;
+
 // Where the initial marking of place p stands in a net.
 pub fn initial_at(p: usize) -> usize
     requires { ⌜ p < 256 ⌝ }

@@ -27,13 +27,13 @@ fn has_head(shape: Net, state: &[u8]) -> bool
     if !begins::begins(state, length) {
         return false;
     }
-    if words::wide(state[5]) != shape.places {
+    if words::wide(state[places::PLACES_AT]) != shape.places {
         return false;
     }
-    if words::wide(state[6]) != shape.transitions {
+    if words::wide(state[places::TRANSITIONS_AT]) != shape.transitions {
         return false;
     }
-    if words::wide(state[7]) != shape.width {
+    if words::wide(state[places::WIDTH_AT]) != shape.width {
         return false;
     }
     length <= state.len()

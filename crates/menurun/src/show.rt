@@ -126,8 +126,12 @@ pub fn state(out: &mut [u8], at: usize, state: &[u8]) -> usize
     requires { ⌜ Shown (now state) ⌝ }
     ensures { λ r. ⌜ r ≤ length (now (out .exit)) ⌝ }
 {
-    let places = words::wide(state[5]);
-    let shape = Net::new(places, words::wide(state[6]), words::wide(state[7]));
+    let places = words::wide(state[places::PLACES_AT]);
+    let shape = Net::new(
+        places,
+        words::wide(state[places::TRANSITIONS_AT]),
+        words::wide(state[places::WIDTH_AT]),
+    );
     let marked = marks(out, at, state, places);
     rows(out, marked, state, shape)
 }
