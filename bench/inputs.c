@@ -1,0 +1,226 @@
+// The nets and logs of the benchmark. Each log is made by playing its net: a start where one is owed, an end where one is owed,
+// and otherwise an end or a tick by the input's own taste, so every log is accepted from the net's initial state.
+#include "inputs.h"
+
+#include <stdio.h>
+#include <stdlib.h>
+#include <string.h>
+
+typedef struct {
+    unsigned places, transitions;
+    unsigned initial[64], sfd[64], lfd[64];
+    uint8_t in[64][64], out[64][64];
+} Plan;
+
+static uint32_t seed;
+
+// A linear congruential generator: the same numbers on every machine.
+static uint32_t pick(uint32_t below)
+{
+    seed = seed * 1664525u + 1013904223u;
+    return (seed >> 8) % below;
+}
+
+static void put16(uint8_t *s, unsigned v)
+{
+    s[0] = (uint8_t)(v >> 8);
+    s[1] = (uint8_t)v;
+}
+
+static void begin_form(uint8_t *s, size_t length)
+{
+    s[0] = 1;
+    s[1] = (uint8_t)(length >> 24);
+    s[2] = (uint8_t)(length >> 16);
+    s[3] = (uint8_t)(length >> 8);
+    s[4] = (uint8_t)length;
+}
+
+// The net and its initial state as bytes.
+static void write_plan(const Plan *plan, Input *input)
+{
+    unsigned places = plan->places, transitions = plan->transitions, longest = 0;
+    uint8_t *at = input->net + 7;
+    for (unsigned p = 0; p < places; p++, at += 2)
+        put16(at, plan->initial[p]);
+    for (unsigned t = 0; t < transitions; t++) {
+        *at++ = (uint8_t)plan->sfd[t];
+        *at++ = (uint8_t)plan->lfd[t];
+        memcpy(at, plan->in[t], places);
+        memcpy(at + places, plan->out[t], places);
+        at += 2 * places;
+        if (plan->lfd[t] > longest)
+            longest = plan->lfd[t];
+    }
+    input->net_len = (size_t)(at - input->net);
+    begin_form(input->net, input->net_len);
+    input->net[5] = (uint8_t)places;
+    input->net[6] = (uint8_t)transitions;
+
+    input->state_len = 8 + 2 * places + 2 * transitions * (longest + 1);
+    memset(input->state, 0, input->state_len);
+    begin_form(input->state, input->state_len);
+    input->state[5] = (uint8_t)places;
+    input->state[6] = (uint8_t)transitions;
+    input->state[7] = (uint8_t)(longest + 1);
+    memcpy(input->state + 8, input->net + 7, 2 * places);
+}
+
+static int enabled(const Plan *plan, const unsigned *marking, unsigned t)
+{
+    for (unsigned p = 0; p < plan->places; p++)
+        if (marking[p] < plan->in[t][p])
+            return 0;
+    return 1;
+}
+
+// Plays the net for so many events. Where nothing is owed, an end is taken in `ends` of 256 cases in which one is possible.
+static void play(const Plan *plan, unsigned events, unsigned ends, Input *input)
+{
+    static struct {
+        unsigned t, age;
+    } firing[65536];
+    unsigned marking[64], firings = 0;
+    uint8_t *at = input->log + 5;
+    memcpy(marking, plan->initial, sizeof marking);
+    for (unsigned k = 0; k < events; k++, at += 2) {
+        unsigned found = 0, chosen[64];
+        for (unsigned t = 0; t < plan->transitions; t++)
+            if (enabled(plan, marking, t))
+                chosen[found++] = t;
+        if (found) {
+            unsigned t = chosen[pick(found)];
+            for (unsigned p = 0; p < plan->places; p++)
+                marking[p] -= plan->in[t][p];
+            firing[firings].t = t;
+            firing[firings++].age = 0;
+            at[0] = (uint8_t)(1 + t);
+            at[1] = 0;
+            continue;
+        }
+        if (firings == 0) {
+            fprintf(stderr, "%s is at rest after %u events\n", input->name, k);
+            exit(2);
+        }
+        unsigned due = firings, can = firings, begin = pick(firings);
+        for (unsigned i = 0; i < firings; i++) {
+            unsigned f = (begin + i) % firings, t = firing[f].t;
+            if (firing[f].age == plan->lfd[t])
+                due = f;
+            if (firing[f].age >= plan->sfd[t])
+                can = f;
+        }
+        unsigned f = due < firings ? due : can;
+        if (f < firings && (due < firings || pick(256) < ends)) {
+            unsigned t = firing[f].t;
+            for (unsigned p = 0; p < plan->places; p++)
+                marking[p] += plan->out[t][p];
+            at[0] = (uint8_t)(65 + t);
+            at[1] = (uint8_t)firing[f].age;
+            firing[f] = firing[--firings];
+            continue;
+        }
+        for (f = 0; f < firings; f++)
+            firing[f].age++;
+        at[0] = at[1] = 0;
+    }
+    input->log_len = 5 + 2 * (size_t)events;
+    begin_form(input->log, input->log_len);
+}
+
+// The children's row net of document 01. Where it returns its token, filling the row puts a token back for the next load.
+static void row_plan(Plan *plan, int returns)
+{
+    memset(plan, 0, sizeof *plan);
+    plan->places = 3;
+    plan->transitions = 2;
+    plan->initial[0] = 1;
+    plan->sfd[0] = 1;
+    plan->lfd[0] = 3;
+    plan->in[0][0] = 1;
+    plan->out[0][1] = 1;
+    plan->in[1][1] = 1;
+    plan->out[1][2] = 1;
+    plan->out[1][0] = returns ? 1 : 0;
+}
+
+// A net of the largest size. Jobs go round 32 stations, the even places; at each, two transitions may take a job on, and each of
+// these borrows two tokens of one of 32 shared stores, the odd places, which always hold enough. So a transition has two input
+// arcs and two output arcs, and the place that a waiting transition lacks stands, over all transitions, anywhere in its row.
+static void rounds_plan(Plan *plan, unsigned jobs, int at_once)
+{
+    memset(plan, 0, sizeof *plan);
+    plan->places = plan->transitions = 64;
+    for (unsigned s = 0; s < 32; s++)
+        plan->initial[2 * s + 1] = 1000;
+    for (unsigned j = 0; j < jobs; j++)
+        plan->initial[2 * (j * 32 / jobs)] += 1;
+    for (unsigned t = 0; t < 64; t++) {
+        unsigned station = t % 32, store = (5 * t + 3) % 32;
+        plan->in[t][2 * station] = 1;
+        plan->out[t][2 * ((station + 1) % 32)] = 1;
+        plan->in[t][2 * store + 1] = 2;
+        plan->out[t][2 * store + 1] = 2;
+        plan->sfd[t] = at_once ? 0 : 20 + t % 16;
+        plan->lfd[t] = t == 0 ? 63 : 48 + t % 16;
+    }
+}
+
+// A net of the largest size in which every transition takes from every place and gives to every place.
+static void full_plan(Plan *plan, unsigned jobs)
+{
+    memset(plan, 0, sizeof *plan);
+    plan->places = plan->transitions = 64;
+    for (unsigned p = 0; p < 64; p++)
+        plan->initial[p] = jobs * (1 + p % 3);
+    for (unsigned t = 0; t < 64; t++) {
+        for (unsigned p = 0; p < 64; p++)
+            plan->in[t][p] = plan->out[t][p] = (uint8_t)(1 + p % 3);
+        plan->sfd[t] = 0;
+        plan->lfd[t] = 63;
+    }
+}
+
+int make_input(unsigned k, unsigned events, Input *input)
+{
+    static const uint8_t row_log[] = {1, 0, 0, 0, 15, 1, 0, 0, 0, 65, 1, 2, 0, 66, 0};
+    static Plan plan;
+    seed = 20160620 + k;
+    switch (k) {
+    case 0:
+        input->name = "row, document 01's log";
+        row_plan(&plan, 0);
+        write_plan(&plan, input);
+        input->log_len = sizeof row_log;
+        memcpy(input->log, row_log, sizeof row_log);
+        return 1;
+    case 1:
+        input->name = "row, token returned";
+        row_plan(&plan, 1);
+        write_plan(&plan, input);
+        input->log_len = 5 + 10 * (events / 5);
+        begin_form(input->log, input->log_len);
+        for (unsigned i = 5; i < input->log_len; i += 10)
+            memcpy(input->log + i, row_log + 5, 10);
+        return 1;
+    case 2:
+        input->name = "64 x 64 x 64, ticks";
+        rounds_plan(&plan, 4, 0);
+        write_plan(&plan, input);
+        play(&plan, events, 0, input);
+        return 1;
+    case 3:
+        input->name = "64 x 64 x 64, starts and ends";
+        rounds_plan(&plan, 24, 1);
+        write_plan(&plan, input);
+        play(&plan, events, 240, input);
+        return 1;
+    case 4:
+        input->name = "the same, every weight above 0";
+        full_plan(&plan, 24);
+        write_plan(&plan, input);
+        play(&plan, events, 240, input);
+        return 1;
+    }
+    return 0;
+}
