@@ -29,6 +29,14 @@ use Rattle.moves.proofs.event.apply.Reads as apply
 use Rattle.moves.proofs.event.apply.Kinds as apply-kinds
 use Rattle.moves.proofs.event.back.Reads as back
 use Rattle.moves.proofs.event.back.Kinds as back-kinds
+use Rattle.moves.proofs.tick.tick_again.Reads as tick-again
+use Rattle.moves.proofs.tick.tick_again.Kinds as tick-again-kinds
+use Rattle.moves.proofs.tick.untick_again.Reads as untick-again
+use Rattle.moves.proofs.tick.untick_again.Kinds as untick-again-kinds
+use Rattle.moves.proofs.event.apply_again.Reads as apply-again
+use Rattle.moves.proofs.event.apply_again.Kinds as apply-again-kinds
+use Rattle.moves.proofs.event.back_again.Reads as back-again
+use Rattle.moves.proofs.event.back_again.Kinds as back-again-kinds
 
 pub shift-up-leaves : LeavesOne 1 shift-up-kinds.ps shift-up-kinds.r shift-up.Learnt (λ κs s. now (s .0))
 shift-up-leaves κs args x y s s′ p q = p ∙ sym q
@@ -89,3 +97,27 @@ back-determined κs args x y s s′ p q = p .0 ∙ sym (q .0)
 
 pub back-leaves : LeavesOne 2 back-kinds.ps back-kinds.r back.Learnt (λ κs s. now (s .1 .1 .0))
 back-leaves κs args x y s s′ p q = p .1 ∙ sym (q .1)
+
+pub tick-again-determined : Determined 2 tick-again-kinds.ps tick-again-kinds.r tick-again.Learnt
+tick-again-determined κs args x y s s′ p q = p .0 ∙ sym (q .0)
+
+pub tick-again-leaves : LeavesOne 2 tick-again-kinds.ps tick-again-kinds.r tick-again.Learnt (λ κs s. now (s .1 .1 .0))
+tick-again-leaves κs args x y s s′ p q = p .1 ∙ sym (q .1)
+
+pub untick-again-determined : Determined 2 untick-again-kinds.ps untick-again-kinds.r untick-again.Learnt
+untick-again-determined κs args x y s s′ p q = p .0 ∙ sym (q .0)
+
+pub untick-again-leaves : LeavesOne 2 untick-again-kinds.ps untick-again-kinds.r untick-again.Learnt (λ κs s. now (s .1 .1 .0))
+untick-again-leaves κs args x y s s′ p q = p .1 ∙ sym (q .1)
+
+pub apply-again-determined : Determined 2 apply-again-kinds.ps apply-again-kinds.r apply-again.Learnt
+apply-again-determined κs args x y s s′ p q = p .0 ∙ sym (q .0)
+
+pub apply-again-leaves : LeavesOne 2 apply-again-kinds.ps apply-again-kinds.r apply-again.Learnt (λ κs s. now (s .1 .1 .0))
+apply-again-leaves κs args x y s s′ p q = p .1 ∙ sym (q .1)
+
+pub back-again-determined : Determined 2 back-again-kinds.ps back-again-kinds.r back-again.Learnt
+back-again-determined κs args x y s s′ p q = p .0 ∙ sym (q .0)
+
+pub back-again-leaves : LeavesOne 2 back-again-kinds.ps back-again-kinds.r back-again.Learnt (λ κs s. now (s .1 .1 .0))
+back-again-leaves κs args x y s s′ p q = p .1 ∙ sym (q .1)

@@ -6,5 +6,6 @@ pub mod Looked
 pub mod Starting
 pub mod Ending
 pub mod Undone
+pub mod Calm
 pub mod Edges
 pub mod Determined

@@ -13,7 +13,7 @@ ghost use Rattle.model.specs.Rules.{answerOf, no-end-owed?, none-fresh?, ticked
 ghost use Rattle.forms.specs.Stored.{netOf, stored};
 ghost use Rattle.forms.specs.Written.{written};
 ghost use Rattle.forms.specs.Frame.{Framed};
-ghost use Rattle.moves.specs.After.{applied, takenBack, after};
+ghost use Rattle.moves.specs.After.{applied, takenBack, after, Settled};
 
 // Every count moves to the next age. The state is lawful and none stands at its transition's lfd, so the last column is empty and the
 // clock moves as one block.
@@ -66,6 +66,35 @@ pub fn untick(net: &[u8], shape: Net, state: &mut [u8]) -> Answer
         return Answer::Refused(Refusal::NoStateBefore);
     }
     if counts::nothing_running(net, shape, state) {
+        return Answer::Refused(Refusal::NoStateBefore);
+    }
+    move_back(net, shape, state);
+    Answer::Done
+}
+
+// Time passes by another tick: behind a tick no start is owed and something is running, so neither is looked for again.
+pub fn tick_again(net: &[u8], shape: Net, state: &mut [u8]) -> Answer
+    requires { ⌜ Framed (now net) shape (now state) ⌝ }
+    requires { ⌜ Settled (now net) (now state) ⌝ }
+    ensures { λ r. ⌜ r ≡ answerOf (applied (now (net .entry)) (now (state .entry)) event.Tick) ⌝ }
+    ensures { λ _. ⌜ now (state .exit) ≡ after (netOf (now (net .entry))) (applied (now (net .entry)) (now (state .entry)) event.Tick) (now (state .entry)) ⌝ }
+{
+    if !counts::no_end_owed(net, shape, state) {
+        return Answer::Refused(Refusal::EndOwed);
+    }
+    move_on(net, shape, state);
+    Answer::Done
+}
+
+// Another tick is taken back.
+pub fn untick_again(net: &[u8], shape: Net, state: &mut [u8]) -> Answer
+    requires { ⌜ Framed (now net) shape (now state) ⌝ }
+    requires { ⌜ Settled (now net) (now state) ⌝ }
+    ensures { λ r. ⌜ r ≡ answerOf (takenBack (now (net .entry)) (now (state .entry)) event.Tick) ⌝ }
+    ensures { λ _. ⌜ now (state .exit) ≡ after (netOf (now (net .entry))) (takenBack (now (net .entry)) (now (state .entry)) event.Tick) (now (state .entry)) ⌝ }
+{
+    let none_fresh = counts::none_fresh(net, shape, state);
+    if !none_fresh {
         return Answer::Refused(Refusal::NoStateBefore);
     }
     move_back(net, shape, state);

@@ -1,3 +1,4 @@
 pub mod Onward
 pub mod Behind
+pub mod Settled
 pub mod Determined
