@@ -133,7 +133,7 @@ static int read_number(size_t *v)
     return 1;
 }
 
-// A slice is put behind a fresh allocation of its own size, so that a reader of memory checks finds a step beyond it.
+// Each slice has an allocation of its own size, so that a checker of memory sees a step beyond it.
 static uint8_t *read_slice(size_t *len)
 {
     if (!read_number(len) || *len > 65536)
