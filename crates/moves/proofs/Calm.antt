@@ -43,7 +43,8 @@ module _ (N : Net) (S S′ : State) (s : Lawful N S) (k : Ticks N S S′) where
 
 -- ON BYTES
 
-done-by : (S : State) (o : Outcome) → answerOf o ≡ answer.Done → o ≡ done (stateAfter S o)
+-- an outcome by its answer
+pub done-by : (S : State) (o : Outcome) → answerOf o ≡ answer.Done → o ≡ done (stateAfter S o)
 done-by S (done S′) e = refl
 done-by S (refused why) e = let z : _≡_ {A = ℕ} 0 1 = cc in absurd (omega arith)
 

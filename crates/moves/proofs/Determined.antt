@@ -33,10 +33,6 @@ use Rattle.moves.proofs.tick.tick_again.Reads as tick-again
 use Rattle.moves.proofs.tick.tick_again.Kinds as tick-again-kinds
 use Rattle.moves.proofs.tick.untick_again.Reads as untick-again
 use Rattle.moves.proofs.tick.untick_again.Kinds as untick-again-kinds
-use Rattle.moves.proofs.event.apply_again.Reads as apply-again
-use Rattle.moves.proofs.event.apply_again.Kinds as apply-again-kinds
-use Rattle.moves.proofs.event.back_again.Reads as back-again
-use Rattle.moves.proofs.event.back_again.Kinds as back-again-kinds
 
 pub shift-up-leaves : LeavesOne 1 shift-up-kinds.ps shift-up-kinds.r shift-up.Learnt (λ κs s. now (s .0))
 shift-up-leaves κs args x y s s′ p q = p ∙ sym q
@@ -109,15 +105,3 @@ untick-again-determined κs args x y s s′ p q = p .0 ∙ sym (q .0)
 
 pub untick-again-leaves : LeavesOne 2 untick-again-kinds.ps untick-again-kinds.r untick-again.Learnt (λ κs s. now (s .1 .1 .0))
 untick-again-leaves κs args x y s s′ p q = p .1 ∙ sym (q .1)
-
-pub apply-again-determined : Determined 2 apply-again-kinds.ps apply-again-kinds.r apply-again.Learnt
-apply-again-determined κs args x y s s′ p q = p .0 ∙ sym (q .0)
-
-pub apply-again-leaves : LeavesOne 2 apply-again-kinds.ps apply-again-kinds.r apply-again.Learnt (λ κs s. now (s .1 .1 .0))
-apply-again-leaves κs args x y s s′ p q = p .1 ∙ sym (q .1)
-
-pub back-again-determined : Determined 2 back-again-kinds.ps back-again-kinds.r back-again.Learnt
-back-again-determined κs args x y s s′ p q = p .0 ∙ sym (q .0)
-
-pub back-again-leaves : LeavesOne 2 back-again-kinds.ps back-again-kinds.r back-again.Learnt (λ κs s. now (s .1 .1 .0))
-back-again-leaves κs args x y s s′ p q = p .1 ∙ sym (q .1)

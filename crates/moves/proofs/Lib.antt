@@ -1,3 +1,4 @@
+pub mod Edges
 pub mod Shifting
 pub mod Ticking
 pub mod Marked
@@ -7,5 +8,4 @@ pub mod Starting
 pub mod Ending
 pub mod Undone
 pub mod Calm
-pub mod Edges
 pub mod Determined

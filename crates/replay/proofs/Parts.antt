@@ -8,7 +8,7 @@ use lib.ListN.{length, take, drop}
 use borrow.Author.Tests.{le-leb, lt-leb, eq-eqb, ne-eqb}
 use Rattle.forms.specs.Word.{word32}
 use Rattle.runs.specs.declared.told.Told.{Told}
-use Rattle.runs.proofs.Behind.{rest}
+use Rattle.logs.proofs.PairLaws.{rest}
 use Rattle.engine.specs.declared.answers.Verdict.{Verdict}
 use Rattle.engine.specs.Calls.{initialTold, initialLeft, runTold, runLeft, owedTold}
 use Rattle.replay.specs.declared.input.Replayed.{Replayed}

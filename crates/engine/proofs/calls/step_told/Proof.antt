@@ -8,7 +8,7 @@ use Rattle.forms.specs.declared.fault.Checked.the-variants as checked
 use Rattle.forms.specs.Logs.{checkLog}
 use Rattle.forms.proofs.Logs.{log-exact}
 use Rattle.logs.proofs.StepLaws.{span-piece}
-use Rattle.runs.proofs.Behind.{rest}
+use Rattle.logs.proofs.PairLaws.{rest}
 use Rattle.engine.specs.Calls.{stepTold}
 use borrow.Author.Needs.{needs}
 use Rattle.engine.proofs.calls.step_told.Statement.{statement}
