@@ -40,11 +40,17 @@ shift-up-leaves κs args x y s s′ p q = p ∙ sym q
 pub shift-down-leaves : LeavesOne 1 shift-down-kinds.ps shift-down-kinds.r shift-down.Learnt (λ κs s. now (s .0))
 shift-down-leaves κs args x y s s′ p q = p ∙ sym q
 
+pub take-determined : Determined 2 take-kinds.ps take-kinds.r take.Learnt
+take-determined κs args x y s s′ p q = p .0 ∙ sym (q .0)
+
 pub take-leaves : LeavesOne 2 take-kinds.ps take-kinds.r take.Learnt (λ κs s. now (s .1 .1 .0))
-take-leaves κs args x y s s′ p q = p ∙ sym q
+take-leaves κs args x y s s′ p q = p .1 ∙ sym (q .1)
+
+pub give-determined : Determined 2 give-kinds.ps give-kinds.r give.Learnt
+give-determined κs args x y s s′ p q = p .0 ∙ sym (q .0)
 
 pub give-leaves : LeavesOne 2 give-kinds.ps give-kinds.r give.Learnt (λ κs s. now (s .1 .1 .0))
-give-leaves κs args x y s s′ p q = p ∙ sym q
+give-leaves κs args x y s s′ p q = p .1 ∙ sym (q .1)
 
 pub tick-determined : Determined 2 tick-kinds.ps tick-kinds.r tick.Learnt
 tick-determined κs args x y s s′ p q = p .0 ∙ sym (q .0)

@@ -1,7 +1,7 @@
 -- An end of a transition, done and taken back, against the rules: what each return of the code answers, and what it leaves.
 -- Assumes nothing.
 use mathlib.Core.Path.{_≡_, refl, sym, _∙_}
-use mathlib.Core.Bool.{true, false}
+use mathlib.Core.Bool.{Bool, true, false}
 use mathlib.Core.List.{List}
 use Prim.Native.Nat.{ℕ, _+_, _-_, _<_, _≤_}
 use native.Mathlib.Omega.{arith}
@@ -24,11 +24,10 @@ use Rattle.forms.specs.Places.{markAt, countAt}
 use Rattle.forms.specs.Stored.{netOf, stored}
 use Rattle.forms.specs.Frame.{Framed}
 use Rattle.forms.proofs.Inside.{lfd-young}
-use Rattle.owed.specs.Marks.{roomy?}
-use Rattle.owed.proofs.ModelTests.{roomy-is}
-use Rattle.moves.specs.Marking.{afterTaking, afterGiving}
+use Rattle.moves.specs.Marking.{afterTaking, afterGiving, roomy?}
 use Rattle.moves.specs.After.{applied, takenBack, Answers}
-use Rattle.moves.proofs.Fired.{unknown-test, known-test, one-more, roomy-each, raised, lowered}
+use Rattle.moves.proofs.Looked.{roomy-is, roomy-each}
+use Rattle.moves.proofs.Fired.{unknown-test, known-test, one-more, raised, lowered}
 
 module _ (net : List ℕ) (shape : Shape) (b : List ℕ) (f : Framed net shape b) (t : ℕ) (age : Age) where
   pub end-unknown : shape .transitions ≤ t → Answers net b (applied net b (event.End t age)) (answer.Refused refusal.NoSuchTransition) b
@@ -70,10 +69,15 @@ module _ (net : List ℕ) (shape : Shape) (b : List ℕ) (f : Framed net shape b
         end-none z =
             simp (known-test net shape b f t known, timely, lt-leb 1 (count (stored net b) t (age .0)) (omega (arith, stands))) (refl, refl)
 
-        pub unend-full : covers? (netOf net) (stored net b) (netOf net .gives t) ≡ true → held? (v + 1) ≡ false
-            → Answers net b (takenBack net b (event.End t age)) (answer.Refused refusal.NoStateBefore) b
+        -- whatever the places hold
+        pub unend-full : held? (v + 1) ≡ false → Answers net b (takenBack net b (event.End t age)) (answer.Refused refusal.NoStateBefore) b
         unfolding back
-        unend-full covered full = simp (known-test net shape b f t known, timely, covered, one-more stands full) (refl, refl)
+        unend-full full = go (covers? (netOf net) (stored net b) (netOf net .gives t)) refl
+          where
+            go : (covered : Bool) → covers? (netOf net) (stored net b) (netOf net .gives t) ≡ covered
+                → Answers net b (takenBack net b (event.End t age)) (answer.Refused refusal.NoStateBefore) b
+            go true e = simp (known-test net shape b f t known, timely, e, one-more stands full) (refl, refl)
+            go false e = simp (known-test net shape b f t known, timely, e) (refl, refl)
 
         -- `from` is where the code found the weights
         module _ (from : ℕ) (right : (p : ℕ) → byte net (from + p) ≡ netOf net .gives t p) where

@@ -19,9 +19,7 @@ use Rattle.model.specs.Age.{columnOf}
 use Rattle.model.specs.Limits.{Held, held?}
 use Rattle.model.specs.Tab.{one}
 use Rattle.model.specs.Net.{Net, State, width, tokens, count, build}
-use Rattle.model.proofs.Tab.{below-or-past, one-here, one-off, all-tells}
-use Rattle.model.proofs.Tests.{held-tells}
-use Rattle.model.proofs.Alls.{holds}
+use Rattle.model.proofs.Tab.{below-or-past, one-here, one-off}
 use Rattle.model.proofs.Shape.{tokens-build, count-build}
 use Rattle.forms.specs.Word.{Bytes, byte, word, setWord, putWords, putRows}
 use Rattle.forms.specs.Places.{markAt, countAt, stateLength, imageLength}
@@ -33,7 +31,6 @@ use Rattle.forms.proofs.Runs.{putRows-flat, putWords-over}
 use Rattle.forms.proofs.Stored.{count-place, count-at}
 use Rattle.forms.proofs.States.{transitions-same}
 use Rattle.forms.proofs.Inside.{mark-stands, known-model}
-use Rattle.owed.specs.Marks.{roomy?}
 use Rattle.moves.specs.Marking.{afterTaking, afterGiving}
 
 -- two cells of a matrix with d columns stand at one place only if they are one cell
@@ -153,12 +150,6 @@ module _ (net : List ℕ) (shape : Shape) (b : List ℕ) (f : Framed net shape b
   module _ (known : t < byte net 6) where
     pub known-test : ltb t (netOf net .transitions) ≡ true
     known-test = lt-ltb t (netOf net .transitions) (known-model net shape b f t known)
-
--- every place has room for its weight
-pub roomy-each : (net : List ℕ) (from : ℕ) (b : List ℕ) (n : ℕ) → roomy? net from b n ≡ true
-    → (p : ℕ) → p < n → Held (word b (markAt p) + byte net (from + p))
-unfolding roomy?
-roomy-each net from b n e = holds (all-tells n (λ p. held-tells (word b (markAt p) + byte net (from + p)))) e
 
 -- the count that the code found, one more: the test of the code is the model's
 pub one-more : {v n : ℕ} {r : Bool} → v ≡ n → held? (v + 1) ≡ r → held? (suc n) ≡ r

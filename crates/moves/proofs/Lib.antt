@@ -2,8 +2,9 @@ pub mod Edges
 pub mod Shifting
 pub mod Ticking
 pub mod Marked
-pub mod Fired
+pub mod Weighing
 pub mod Looked
+pub mod Fired
 pub mod Starting
 pub mod Ending
 pub mod Undone

@@ -1,57 +1,69 @@
--- The search for a place that is short of its weight, against the rule that an end is taken back only where none is.
+-- What `take` and `give` of `marking` test, against the rules, and what they leave.
 -- Assumes nothing.
-use mathlib.Core.Path.{_≡_, sym, _∙_}
-use mathlib.Core.Bool.{Bool, true, false}
+use mathlib.Core.Path.{_≡_, _∙_}
+use mathlib.Core.Bool.{Bool, true, false, not}
 use mathlib.Core.List.{List}
-use Prim.Native.Nat.{ℕ, _+_, _<_, _≤_}
+use Prim.Native.Nat.{ℕ, _+_, _<_}
 use native.Mathlib.Omega.{arith}
-use lib.Dec.{T, eqb}
-use borrow.Author.Tests.{eq-eqb, ne-eqb}
 use Rattle.model.specs.declared.net.Net.{Net as Shape}
-use Rattle.model.specs.Tab.{lowest}
-use Rattle.model.specs.Rules.{covers?}
-use Rattle.model.specs.Owed.{Lowest}
-use Rattle.model.proofs.Tests.{covers-tells}
-use Rattle.model.proofs.Alls.{holds}
-use Rattle.model.proofs.Owed.{lowest-is}
-use Rattle.forms.specs.Word.{byte, word}
+use Rattle.model.specs.Limits.{Held}
+use Rattle.model.specs.Rules.{enabled?, covers?, has-room?}
+use Rattle.model.proofs.Tab.{all-tells}
+use Rattle.model.proofs.Tests.{held-tells, enabled-tells, covers-tells, has-room-tells}
+use Rattle.model.proofs.Alls.{tells-same, passed, failed, holds}
+use Rattle.forms.specs.Word.{byte, word, putWords}
 use Rattle.forms.specs.Places.{markAt}
 use Rattle.forms.specs.Stored.{netOf, stored}
 use Rattle.forms.specs.Frame.{Framed}
 use Rattle.forms.proofs.Inside.{mark-stands}
-use Rattle.owed.specs.Marks.{short?, shortPlace}
-use Rattle.owed.proofs.ModelTests.{lowest-all, covers-is}
+use Rattle.owed.proofs.ModelTests.{covers-is}
+use Rattle.moves.specs.Marking.{afterTaking, afterGiving, covered?, roomy?, taken, given}
 
--- what the search tells is at most the number of places
-lowest-within : (f : ℕ → Bool) (n : ℕ) → lowest n n f ≤ n
-lowest-within f n = go (lowest-is {f = f} {A = λ i. T (f i)} (λ i. record { sound = λ x. x; complete = λ x. x }) n n)
-  where
-    go : {l : ℕ} → Lowest (λ i. T (f i)) n n l → l ≤ n
-    go (Lowest.found h p below) = omega arith
-    go (Lowest.empty below) = omega arith
+-- x is what the code left of b, and r what it told
+module _ (net b : List ℕ) (from n : ℕ) (r : Bool) (x : List ℕ) where
+  module _ (tested : r ≡ covered? net from b n) (left : x ≡ taken net from b n) where
+    pub took : not r ≡ false → x ≡ putWords (markAt 0) n (afterTaking net from b) b
+    unfolding taken
+    took e = left ∙ rw (passed tested e)
+
+    pub took-nothing : not r ≡ true → x ≡ b
+    unfolding taken
+    took-nothing e = left ∙ rw (failed tested e)
+
+  module _ (tested : r ≡ roomy? net from b n) (left : x ≡ given net from b n) where
+    pub gave : not r ≡ false → x ≡ putWords (markAt 0) n (afterGiving net from b) b
+    unfolding given
+    gave e = left ∙ rw (passed tested e)
+
+    pub gave-nothing : not r ≡ true → x ≡ b
+    unfolding given
+    gave-nothing e = left ∙ rw (failed tested e)
 
 -- the weights w stand in the net from `from` on
 module _ (net : List ℕ) (shape : Shape) (b : List ℕ) (f : Framed net shape b) (from : ℕ) (w : ℕ → ℕ)
     (right : (p : ℕ) → byte net (from + p) ≡ w p) where
-  short-covers : eqb (shortPlace net from b (shape .places)) (shape .places) ≡ covers? (netOf net) (stored net b) w
-  unfolding shortPlace
-  short-covers = lowest-all (short? net from b) (shape .places) ∙ covers-is net shape b f from w right
+  abbrev places-are : shape .places ≡ netOf net .places
+  places-are = f .net-framed .has-shape .places-are
 
-  short-within : shortPlace net from b (shape .places) ≤ shape .places
-  unfolding shortPlace
-  short-within = lowest-within (short? net from b) (shape .places)
+  pub covered-is : covered? net from b (shape .places) ≡ covers? (netOf net) (stored net b) w
+  unfolding covered?
+  covered-is = covers-is net shape b f from w right
 
-  -- where the code found that none is short, and where it found one
-  pub none-short : (s : ℕ) → s ≡ shortPlace net from b (shape .places) → shape .places ≤ s → covers? (netOf net) (stored net b) w ≡ true
-  none-short s e l =
-      sym short-covers ∙ eq-eqb (shortPlace net from b (shape .places)) (shape .places) (omega (arith, short-within))
+  pub roomy-is : roomy? net from b (shape .places) ≡ has-room? (netOf net) (stored net b) w
+  unfolding roomy?
+  roomy-is =
+      tells-same (all-tells (shape .places) (λ p. held-tells (word b (markAt p) + byte net (from + p)))) (has-room-tells (netOf net) (stored net b) w)
+      (λ g p l. let h : p < shape .places = omega (arith, places-are) in omega (arith, g p h, mark-stands net shape b f p h, right p))
+      (λ g p l. omega (arith, g p (omega (arith, places-are)), mark-stands net shape b f p l, right p))
 
-  pub some-short : (s : ℕ) → s ≡ shortPlace net from b (shape .places) → s < shape .places → covers? (netOf net) (stored net b) w ≡ false
-  some-short s e l =
-      sym short-covers ∙ ne-eqb (shortPlace net from b (shape .places)) (shape .places) (λ g. omega arith)
+-- a transition is enabled once where every place has its input weight
+pub covers-enabled : (net b : List ℕ) (t : ℕ) → covers? (netOf net) (stored net b) (netOf net .takes t) ≡ enabled? (netOf net) (stored net b) t 1
+covers-enabled net b t =
+    tells-same (covers-tells (netOf net) (stored net b) (netOf net .takes t)) (enabled-tells (netOf net) (stored net b) t 1)
+    (λ g p l. omega (arith, g p l)) (λ g p l. omega (arith, g p l))
 
-  -- each place then has its weight
-  pub covered-each : covers? (netOf net) (stored net b) w ≡ true → (p : ℕ) → p < shape .places → byte net (from + p) ≤ word b (markAt p)
-  covered-each e p l =
-      let m : p < netOf net .places = omega (arith, f .net-framed .has-shape .places-are) in
-      omega (arith, holds (covers-tells (netOf net) (stored net b) w) e p m, mark-stands net shape b f p l, right p)
+-- every place has room for its weight
+pub roomy-each : (net : List ℕ) (from : ℕ) (b : List ℕ) (n : ℕ) → roomy? net from b n ≡ true
+    → (p : ℕ) → p < n → Held (word b (markAt p) + byte net (from + p))
+unfolding roomy?
+roomy-each net from b n e = holds (all-tells n (λ p. held-tells (word b (markAt p) + byte net (from + p)))) e

@@ -12,23 +12,22 @@ use Rattle.model.specs.declared.answer.Answer.the-variants as answer
 use Rattle.model.specs.declared.answer.Refusal.the-variants as refusal
 use Rattle.model.specs.declared.event.Event.the-variants as event
 use Rattle.model.specs.Age.{columnOf}
-use Rattle.model.specs.Limits.{Held, held?}
+use Rattle.model.specs.Limits.{held?}
 use Rattle.model.specs.Net.{count}
 use Rattle.model.specs.Rules.{enabled?, has-room?, apply, back, started, unstarted}
 use Rattle.model.proofs.Shape.{width-pos}
-use Rattle.model.proofs.Tests.{leb-tells, held-tells, enabled-tells, told-true, told-false}
+use Rattle.model.proofs.Tests.{leb-tells, held-tells, told-true, told-false}
 use Rattle.model.proofs.Alls.{passed, failed, holds}
-use Rattle.forms.specs.Word.{Bytes, byte, word, setWord, putWords}
+use Rattle.forms.specs.Word.{Bytes, byte, setWord, putWords}
 use Rattle.forms.specs.Places.{markAt, inputsAt, countAt}
 use Rattle.forms.specs.Stored.{netOf, stored}
 use Rattle.forms.specs.Frame.{Framed}
 use Rattle.forms.proofs.States.{places-same}
-use Rattle.forms.proofs.Inside.{mark-stands}
-use Rattle.owed.specs.Marks.{roomy?}
-use Rattle.owed.proofs.ModelTests.{inputs-right, roomy-is}
-use Rattle.moves.specs.Marking.{afterTaking, afterGiving}
+use Rattle.owed.proofs.ModelTests.{inputs-right}
+use Rattle.moves.specs.Marking.{afterTaking, afterGiving, covered?, roomy?}
 use Rattle.moves.specs.After.{applied, takenBack, Answers}
-use Rattle.moves.proofs.Fired.{raised, lowered, unknown-test, known-test, roomy-each, one-more}
+use Rattle.moves.proofs.Looked.{covered-is, covers-enabled, roomy-is, roomy-each}
+use Rattle.moves.proofs.Fired.{raised, lowered, unknown-test, known-test, one-more}
 
 module _ (net : List ℕ) (shape : Shape) (b : List ℕ) (f : Framed net shape b) (t : ℕ) where
   pub start-unknown : shape .transitions ≤ t → Answers net b (applied net b (event.Start t)) (answer.Refused refusal.NoSuchTransition) b
@@ -51,17 +50,9 @@ module _ (net : List ℕ) (shape : Shape) (b : List ℕ) (f : Framed net shape b
     room-is : roomy? net from b (shape .places) ≡ has-room? (netOf net) (stored net b) (netOf net .takes t)
     room-is = roomy-is net shape b f from (netOf net .takes t) weights
 
-    -- where the code found t enabled every place has its weight
-    pub enabled-each : (r : Bool) → r ≡ enabled? (netOf net) (stored net b) t 1 → not r ≡ false
-        → (p : ℕ) → p < shape .places → byte net (from + p) ≤ word b (markAt p)
-    enabled-each r tested found p l =
-        let enough = holds (enabled-tells (netOf net) (stored net b) t 1) (passed tested found) p (omega (arith, f .net-framed .has-shape .places-are)) in
-        omega (arith, enough, weights p, mark-stands net shape b f p l)
-
-    -- where it found room every place holds its weight
-    pub room-each : (r : Bool) → r ≡ roomy? net from b (shape .places) → not r ≡ false
-        → (p : ℕ) → p < shape .places → Held (word b (markAt p) + byte net (from + p))
-    room-each r tested found = roomy-each net from b (shape .places) (passed tested found)
+    -- where the code found that every place has its weight t is enabled
+    pub able-is : covered? net from b (shape .places) ≡ enabled? (netOf net) (stored net b) t 1
+    able-is = covered-is net shape b f from (netOf net .takes t) weights ∙ covers-enabled net b t
 
   module _ (known : t < byte net 6) where
     -- what the code found: `able`, that t is enabled
@@ -95,7 +86,7 @@ module _ (net : List ℕ) (shape : Shape) (b : List ℕ) (f : Framed net shape b
             simp (known-test net shape b f t known, some s, sym (room-is from e) ∙ passed tested free) (
               refl,
               lowered net shape b f small t known (record { 0 = 0 }) fresh from (netOf net .takes t) (weights from e) c at column place v stands
-                  fits (room-each from e room tested free) x y ex ey,
+                  fits (roomy-each net from b (shape .places) (passed tested free)) x y ex ey,
             )
 
       -- `able`, that t is enabled; `free`, that the count may go up

@@ -8,7 +8,6 @@ use model::answer::Answer;
 use model::answer::Refusal;
 use model::net::Net;
 use owed::counts;
-use owed::marks;
 use owed::starts;
 ghost use mathlib.Core.Path.{_≡_};
 ghost use Prim.Native.Nat.{_<_};
@@ -40,14 +39,18 @@ pub fn start(net: &[u8], shape: Net, state: &mut [u8], t: usize) -> Answer
     if shape.transitions <= t {
         return Answer::Refused(Refusal::NoSuchTransition);
     }
-    if !starts::enabled(net, shape, state, t) {
-        return Answer::Refused(Refusal::NotEnabled);
-    }
     let running = counts::count(net, shape, state, t, Age(0));
     if !Net::held(running + 1) {
+        // 13 is told before 14
+        if !starts::enabled(net, shape, state, t) {
+            return Answer::Refused(Refusal::NotEnabled);
+        }
         return Answer::Refused(Refusal::CountFull);
     }
-    marking::take(net, places::inputs_at(shape.places, t), state, shape.places);
+    let from = places::inputs_at(shape.places, t);
+    if !marking::take(net, from, state, shape.places) {
+        return Answer::Refused(Refusal::NotEnabled);
+    }
     words::write16(
         state,
         places::count_at(shape, t, Age(0).column()),
@@ -70,10 +73,9 @@ pub fn unstart(net: &[u8], shape: Net, state: &mut [u8], t: usize) -> Answer
         return Answer::Refused(Refusal::NoStateBefore);
     }
     let from = places::inputs_at(shape.places, t);
-    if !marks::roomy(net, from, state, shape.places) {
+    if !marking::give(net, from, state, shape.places) {
         return Answer::Refused(Refusal::NoStateBefore);
     }
-    marking::give(net, from, state, shape.places);
     words::write16(
         state,
         places::count_at(shape, t, Age(0).column()),
@@ -99,10 +101,9 @@ pub fn end(net: &[u8], shape: Net, state: &mut [u8], t: usize, age: Age) -> Answ
         return Answer::Refused(Refusal::NoneOfThatAge);
     }
     let from = places::outputs_at(shape.places, t);
-    if !marks::roomy(net, from, state, shape.places) {
+    if !marking::give(net, from, state, shape.places) {
         return Answer::Refused(Refusal::PlaceFull);
     }
-    marking::give(net, from, state, shape.places);
     words::write16(state, places::count_at(shape, t, age.column()), running - 1);
     Answer::Done
 }
@@ -119,15 +120,14 @@ pub fn unend(net: &[u8], shape: Net, state: &mut [u8], t: usize, age: Age) -> An
     if !timely(net, t, age) {
         return Answer::Refused(Refusal::NoStateBefore);
     }
-    let from = places::outputs_at(shape.places, t);
-    if marks::short_place(net, from, state, shape.places) < shape.places {
-        return Answer::Refused(Refusal::NoStateBefore);
-    }
     let running = counts::count(net, shape, state, t, age);
     if !Net::held(running + 1) {
         return Answer::Refused(Refusal::NoStateBefore);
     }
-    marking::take(net, from, state, shape.places);
+    let from = places::outputs_at(shape.places, t);
+    if !marking::take(net, from, state, shape.places) {
+        return Answer::Refused(Refusal::NoStateBefore);
+    }
     words::write16(state, places::count_at(shape, t, age.column()), running + 1);
     Answer::Done
 }

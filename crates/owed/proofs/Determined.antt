@@ -23,8 +23,8 @@ use Rattle.owed.proofs.degree.degree.Reads as degree
 use Rattle.owed.proofs.degree.degree.Kinds as degree-kinds
 use Rattle.owed.proofs.marks.short_place.Reads as short-place
 use Rattle.owed.proofs.marks.short_place.Kinds as short-place-kinds
-use Rattle.owed.proofs.marks.roomy.Reads as roomy
-use Rattle.owed.proofs.marks.roomy.Kinds as roomy-kinds
+use Rattle.owed.proofs.weights.pass_zero.Reads as pass-zero
+use Rattle.owed.proofs.weights.pass_zero.Kinds as pass-zero-kinds
 use Rattle.owed.proofs.starts.lacking.Reads as lacking
 use Rattle.owed.proofs.starts.lacking.Kinds as lacking-kinds
 use Rattle.owed.proofs.starts.enabled.Reads as enabled
@@ -68,8 +68,8 @@ degree-determined κs args x y s s′ p q = p ∙ sym q
 pub short-place-determined : Determined 2 short-place-kinds.ps short-place-kinds.r short-place.Learnt
 short-place-determined κs args x y s s′ p q = p ∙ sym q
 
-pub roomy-determined : Determined 2 roomy-kinds.ps roomy-kinds.r roomy.Learnt
-roomy-determined κs args x y s s′ p q = p ∙ sym q
+pub pass-zero-determined : Determined 1 pass-zero-kinds.ps pass-zero-kinds.r pass-zero.Learnt
+pass-zero-determined κs args x y s s′ p q = p ∙ sym q
 
 pub lacking-determined : Determined 2 lacking-kinds.ps lacking-kinds.r lacking.Learnt
 lacking-determined κs args x y s s′ p q = p ∙ sym q

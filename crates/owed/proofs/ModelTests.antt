@@ -15,11 +15,11 @@ use Rattle.model.specs.declared.answer.Standing.the-variants as standing
 use Rattle.model.specs.Tab.{Tells, all, least, lowest, howMany}
 use Rattle.model.specs.Limits.{tokenLimit}
 use Rattle.model.specs.Net.{Net, State, width, tokens, count}
-use Rattle.model.specs.Rules.{enabled?, no-start-owed?, no-end-owed?, none-fresh?, nothing-running?, has-room?, covers?, times, degree}
+use Rattle.model.specs.Rules.{enabled?, no-start-owed?, no-end-owed?, none-fresh?, nothing-running?, covers?, times, degree}
 use Rattle.model.specs.Owed.{Lowest, wordBits, owes-start?, owes-end?, standingOf}
 use Rattle.model.proofs.Tab.{all-tells}
 use Rattle.model.proofs.Shape.{width-pos}
-use Rattle.model.proofs.Tests.{ltb-tells, eqb-tells, not-tells, held-tells, enabled-tells, has-room-tells, covers-tells, no-start-owed-tells, no-end-owed-tells, nothing-running-tells, told-true, told-false}
+use Rattle.model.proofs.Tests.{ltb-tells, eqb-tells, not-tells, enabled-tells, covers-tells, no-start-owed-tells, no-end-owed-tells, nothing-running-tells, told-true, told-false}
 use Rattle.model.proofs.Alls.{tells-same, lacks}
 use Rattle.model.proofs.Owed.{lowest-is, lowest-once, owes-start-tells, owes-end-tells, no-start-owed-is, no-end-owed-is}
 use Rattle.forms.specs.Word.{byte, word, blank?}
@@ -28,7 +28,7 @@ use Rattle.forms.specs.Stored.{netOf, stored}
 use Rattle.forms.specs.Frame.{Framed}
 use Rattle.forms.proofs.Stored.{count-at}
 use Rattle.forms.proofs.Inside.{mark-stands, known-model}
-use Rattle.owed.specs.Marks.{short?, shortPlace, lackingPlace, roomy?}
+use Rattle.owed.specs.Marks.{short?, shortPlace, lackingPlace}
 use Rattle.owed.specs.Bits.{wordOf}
 use Rattle.owed.specs.Reported.{setOf}
 use Rattle.owed.proofs.OwedWords.{word-ones, word-low, word-none, word-zero}
@@ -127,13 +127,6 @@ module _ (net : List ℕ) (shape : Shape) (b : List ℕ) (f : Framed net shape b
     pub covers-is : all (shape .places) has ≡ covers? (netOf net) (stored net b) w
     covers-is =
         tells-same (all-tells (shape .places) has-tells) (covers-tells (netOf net) (stored net b) w)
-        (λ g p l. let h : p < shape .places = omega (arith, places-are) in omega (arith, g p h, mark-stands net shape b f p h, right p))
-        (λ g p l. omega (arith, g p (omega (arith, places-are)), mark-stands net shape b f p l, right p))
-
-    pub roomy-is : roomy? net from b (shape .places) ≡ has-room? (netOf net) (stored net b) w
-    unfolding roomy?
-    roomy-is =
-        tells-same (all-tells (shape .places) (λ p. held-tells (word b (markAt p) + byte net (from + p)))) (has-room-tells (netOf net) (stored net b) w)
         (λ g p l. let h : p < shape .places = omega (arith, places-are) in omega (arith, g p h, mark-stands net shape b f p h, right p))
         (λ g p l. omega (arith, g p (omega (arith, places-are)), mark-stands net shape b f p l, right p))
 

@@ -1,4 +1,5 @@
 pub mod Marks
+pub mod Weights
 pub mod Bits
 pub mod Reported
 pub mod Edges

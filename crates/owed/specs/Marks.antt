@@ -4,8 +4,7 @@ use mathlib.Core.Bool.{Bool}
 use mathlib.Core.List.{List}
 use Prim.Native.Nat.{ℕ, _+_}
 use lib.Dec.{ltb}
-use Rattle.model.specs.Tab.{all, lowest}
-use Rattle.model.specs.Limits.{held?}
+use Rattle.model.specs.Tab.{lowest}
 use Rattle.model.specs.Net.{Net, State, tokens}
 use Rattle.forms.specs.Word.{byte, word}
 use Rattle.forms.specs.Places.{markAt}
@@ -21,11 +20,3 @@ shortPlace net from state n = lowest n n (short? net from state)
 -- the lowest place that lacks tokens for a start of t, or P where none does
 unfoldable pub lackingPlace : Net → State → ℕ → ℕ
 lackingPlace N S t = lowest (N .places) (N .places) (λ p. ltb (tokens S p) (N .takes t p))
-
--- the weight fits into place p
-abbrev pub fits? : List ℕ → ℕ → List ℕ → ℕ → Bool
-fits? net from state p = held? (word state (markAt p) + byte net (from + p))
-
--- it does into each of n places
-unfoldable pub roomy? : List ℕ → ℕ → List ℕ → ℕ → Bool
-roomy? net from state n = all n (fits? net from state)

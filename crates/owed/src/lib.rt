@@ -6,3 +6,4 @@ pub mod marks;
 pub mod report;
 pub mod sets;
 pub mod starts;
+pub mod weights;

@@ -1,7 +1,7 @@
 -- `firing::end` meets its contract: each return is a case of the rules' outcome.
 -- Assumes nothing.
-use mathlib.Core.Path.{_≡_}
-use mathlib.Core.Bool.{true, false}
+use mathlib.Core.Path.{_≡_, _∙_}
+use mathlib.Core.Bool.{true}
 use Prim.Native.Nat.{ℕ, _+_, _<_}
 use native.Mathlib.Omega.{arith}
 use Rattle.model.specs.Rules.{timely?}
@@ -10,9 +10,9 @@ use Rattle.forms.specs.Word.{Bytes, byte}
 use Rattle.forms.specs.Stored.{netOf}
 use Rattle.forms.proofs.States.{places-same}
 use Rattle.forms.proofs.Inside.{count-inside, row-limits, count-limits, outputs-inside}
-use Rattle.owed.specs.Marks.{roomy?}
 use Rattle.owed.proofs.ModelTests.{outputs-right}
-use Rattle.moves.proofs.Fired.{known-byte, roomy-each}
+use Rattle.moves.proofs.Looked.{gave, gave-nothing}
+use Rattle.moves.proofs.Fired.{known-byte}
 use Rattle.moves.proofs.Ending.{end-unknown, end-untimely, end-none, end-full, end-done, young}
 use borrow.Author.Needs.{needs}
 use Rattle.moves.proofs.firing.end.Statement.{statement}
@@ -47,13 +47,6 @@ right c =
 small : (c : tie.After-slice-known) → Bytes (c .before .before .args .state .now)
 small c = λ k. omega (arith, c .slice-known .given k)
 
--- every place has room for its weight, or one has none
-roomy : (c : tie.Else4) → roomy? (c .before .before .before .before .before .before .before .before .before .before .before .before .before .args .net .now) (c .before .before .before .outputs-at .result) (c .before .before .before .before .before .before .before .before .before .before .before .before .before .args .state .now) (c .before .before .before .before .before .before .before .before .before .before .before .before .before .args .shape .places) ≡ true
-roomy c = passed (c .before .roomy .ensures) (c .if4 .left)
-
-full : (c : tie.Then4) → roomy? (c .before .before .before .before .before .before .before .before .before .before .before .before .before .args .net .now) (c .before .before .before .outputs-at .result) (c .before .before .before .before .before .before .before .before .before .before .before .before .before .args .state .now) (c .before .before .before .before .before .before .before .before .before .before .before .before .before .args .shape .places) ≡ false
-full c = failed (c .before .roomy .ensures) (c .if4 .taken)
-
 -- WHAT IS ASKED THERE
 
 returns : tie.Need-returns
@@ -64,8 +57,7 @@ returns c =
     end-unknown net (e .args .shape) b (e .pre) (e .args .t) (e .args .age) (c .if1 .taken)
 
 timely-requires : tie.Need-timely-requires
-timely-requires c κs =
-    (c .before .before .before .before .pre .net-framed .is-net, known c)
+timely-requires c κs = (c .before .before .before .before .pre .net-framed .is-net, known c)
 
 returns-2 : tie.Need-returns-2
 returns-2 c =
@@ -75,8 +67,7 @@ returns-2 c =
     end-untimely net (e .args .shape) b (e .pre) (e .args .t) (e .args .age) (known (c .before .before)) (failed (c .before .timely .ensures) (c .if2 .taken))
 
 count-requires : tie.Need-count-requires
-count-requires c κs =
-    (c .before .before .before .before .before .before .before .pre, (known (c .before .before .before), column (c .before)))
+count-requires c κs = (c .before .before .before .before .before .before .before .pre, (known (c .before .before .before), column (c .before)))
 
 same-length : tie.Need-same-length
 same-length c = search needs
@@ -86,17 +77,16 @@ returns-3 c =
     let e = c .before .before .before .before .before .before .before .before .before in
     let net = e .args .net .now in
     let b = e .args .state .now in
-    let two = c .before .before .before in
-    let q = c .before .count in
-    end-none net (e .args .shape) b (e .pre) (e .args .t) (e .args .age) (known (two .before .before)) (timely two) (q .result) (q .ensures .0) (c .if3 .taken)
+    let found = c .before .count in
+    end-none net (e .args .shape) b (e .pre) (e .args .t) (e .args .age) (known (c .before .before .before .before .before)) (timely (c .before .before .before)) (found .result) (found .ensures .0) (c .if3 .taken)
 
 outputs-at-requires : tie.Need-outputs-at-requires
 outputs-at-requires c κs =
     let e = c .before .before .before .before .before .before .before .before .before in
     row-limits (e .args .net .now) (e .args .shape) (e .args .state .now) (e .pre) (e .args .t) (known (c .before .before .before .before .before))
 
-roomy-requires : tie.Need-roomy-requires
-roomy-requires c κs =
+give-requires : tie.Need-give-requires
+give-requires c κs =
     let e = c .before .before .before .before .before .before .before .before .before .before .before in
     outputs-inside (e .args .net .now) (e .args .shape) (e .args .state .now) (e .pre) (e .args .t) (known (c .before .before .before .before .before .before .before)) (c .before .outputs-at .result) (c .before .outputs-at .ensures)
 
@@ -105,46 +95,34 @@ same-length-2 c = search needs
 
 returns-4 : tie.Need-returns-4
 returns-4 c =
-    let e = c .before .before .before .before .before .before .before .before .before .before .before .before .before in
+    let e = c .before .before .before .before .before .before .before .before .before .before .before .before .before .before .before in
     let net = e .args .net .now in
     let b = e .args .state .now in
-    let two = c .before .before .before .before .before .before .before in
-    let q = c .before .before .before .before .before .count in
-    let at = c .before .before .before in
-    end-full net (e .args .shape) b (e .pre) (e .args .t) (e .args .age) (known (two .before .before)) (timely two) (q .result) (q .ensures .0) (at .outputs-at .result) (right at)
-    (omega (arith, at .before .if3 .left)) (full c)
-
-give-requires : tie.Need-give-requires
-give-requires c κs =
-    let e = c .before .before .before .before .before .before .before .before .before .before .before .before .before .before in
-    let net = e .args .net .now in
-    let b = e .args .state .now in
-    let at = c .before .before .before .before in (
-      outputs-inside net (e .args .shape) b (e .pre) (e .args .t) (known (c .before .before .before .before .before .before .before .before .before .before)) (at .outputs-at .result) (at .outputs-at .ensures),
-      roomy-each net (at .outputs-at .result) b (e .args .shape .places) (roomy (c .before)),
-    )
+    let found = c .before .before .before .before .before .before .before .count in
+    let at = c .before .before .before .before .before in
+    let tried = c .before .before .before .give in
+    let refused = end-full net (e .args .shape) b (e .pre) (e .args .t) (e .args .age) (known (c .before .before .before .before .before .before .before .before .before .before .before)) (timely (c .before .before .before .before .before .before .before .before .before)) (found .result) (found .ensures .0) (at .outputs-at .result) (right at) (omega (arith, at .before .if3 .left)) (failed (tried .ensures .0) (c .if4 .taken)) in
+    (refused .0, gave-nothing net b (at .outputs-at .result) (e .args .shape .places) (tried .result) _ (tried .ensures .0) (tried .ensures .1) (c .if4 .taken) ∙ refused .1)
 
 column-requires : tie.Need-column-requires
 column-requires c κs = search needs
 
 count-at-requires : tie.Need-count-at-requires
 count-at-requires c κs =
-    let e = c .before .before .before .before .before .before .before .before .before .before .before .before .before .before .before .before .before .before .before in
-    let two = c .before .before .before .before .before .before .before .before .before .before .before .before .before in
-    count-limits (e .args .net .now) (e .args .shape) (e .args .state .now) (e .pre) (e .args .t) (known (two .before .before)) (e .args .age) (c .column .result) (column two) (c .column .ensures)
+    let e = c .before .before .before .before .before .before .before .before .before .before .before .before .before .before .before .before .before in
+    count-limits (e .args .net .now) (e .args .shape) (e .args .state .now) (e .pre) (e .args .t) (known (c .before .before .before .before .before .before .before .before .before .before .before .before .before)) (e .args .age) (c .column .result) (column (c .before .before .before .before .before .before .before .before .before .before .before)) (c .column .ensures)
 
 sub-write16 : tie.Need-sub-write16
 sub-write16 c = search needs
 
 write16-requires : tie.Need-write16-requires
 write16-requires c κs =
-    let e = c .before .before .before .before .before .before .before .before .before .before .before .before .before .before .before .before .before .before .before .before in
+    let e = c .before .before .before .before .before .before .before .before .before .before .before .before .before .before .before .before .before .before in
     let net = e .args .net .now in
     let b = e .args .state .now in
-    let two = c .before .before .before .before .before .before .before .before .before .before .before .before .before .before in
     let to = c .before .column in (
-      omega (arith, count-inside net (e .args .shape) b (e .pre) (e .args .t) (known (two .before .before)) (e .args .age) (to .result) (c .count-at .result) (column two) (to .ensures) (c .count-at .ensures)),
-      omega (arith, c .before .before .before .before .before .before .before .before .before .before .before .before .count .ensures .1),
+      omega (arith, count-inside net (e .args .shape) b (e .pre) (e .args .t) (known (c .before .before .before .before .before .before .before .before .before .before .before .before .before .before)) (e .args .age) (to .result) (c .count-at .result) (column (c .before .before .before .before .before .before .before .before .before .before .before .before)) (to .ensures) (c .count-at .ensures)),
+      omega (arith, c .before .before .before .before .before .before .before .before .before .before .count .ensures .1),
     )
 
 same-length-3 : tie.Need-same-length-3
@@ -152,18 +130,17 @@ same-length-3 c = search needs
 
 returns-5 : tie.Need-returns-5
 returns-5 c =
-    let e = c .before .before .before .before .before .before .before .before .before .before .before .before .before .before .before .before .before .before .before .before .before .before .before in
+    let e = c .before .before .before .before .before .before .before .before .before .before .before .before .before .before .before .before .before .before .before .before .before in
     let net = e .args .net .now in
     let b = e .args .state .now in
-    let two = c .before .before .before .before .before .before .before .before .before .before .before .before .before .before .before .before .before in
-    let q = c .before .before .before .before .before .before .before .before .before .before .before .before .before .before .before .count in
-    let at = c .before .before .before .before .before .before .before .before .before .before .before .before .before in
-    let cell = c .before .before .before in
-    let to = cell .before .column in
-    end-done net (e .args .shape) b (e .pre) (e .args .t) (e .args .age) (known (two .before .before)) (timely two) (q .result) (q .ensures .0) (at .outputs-at .result) (right at)
-    (small (c .before .before .before .before .before .before .before .before .before .before .before .before .before .before .before .before .before .before .before .before .before)) (to .result) (cell .count-at .result) (to .ensures) (cell .count-at .ensures) _ _
-    (omega (arith, at .before .if3 .left)) (q .ensures .1) (roomy (c .before .before .before .before .before .before .before .before .before .before))
-    (c .before .before .before .before .before .before .before .before .give .ensures) (c .before .before .write16 .ensures)
+    let found = c .before .before .before .before .before .before .before .before .before .before .before .before .before .count in
+    let at = c .before .before .before .before .before .before .before .before .before .before .before in
+    let tried = c .before .before .before .before .before .before .before .before .before .give in
+    let to = c .before .before .before .before .column in
+    let cell = c .before .before .before .count-at in
+    end-done net (e .args .shape) b (e .pre) (e .args .t) (e .args .age) (known (c .before .before .before .before .before .before .before .before .before .before .before .before .before .before .before .before .before)) (timely (c .before .before .before .before .before .before .before .before .before .before .before .before .before .before .before)) (found .result) (found .ensures .0) (at .outputs-at .result) (right at)
+    (small (c .before .before .before .before .before .before .before .before .before .before .before .before .before .before .before .before .before .before .before)) (to .result) (cell .result) (to .ensures) (cell .ensures) _ _ (omega (arith, at .before .if3 .left)) (found .ensures .1) (passed (tried .ensures .0) (c .before .before .before .before .before .before .if4 .left))
+    (gave net b (at .outputs-at .result) (e .args .shape .places) (tried .result) _ (tried .ensures .0) (tried .ensures .1) (c .before .before .before .before .before .before .if4 .left)) (c .before .before .write16 .ensures)
 
 pub end-spec : {M : Type 1} → statement M
 end-spec =
@@ -176,10 +153,9 @@ end-spec =
     same-length
     returns-3
     outputs-at-requires
-    roomy-requires
+    give-requires
     same-length-2
     returns-4
-    give-requires
     column-requires
     count-at-requires
     sub-write16

@@ -1,6 +1,6 @@
 -- `firing::unend` meets its contract: each return is a case of the rules' outcome.
 -- Assumes nothing.
-use mathlib.Core.Path.{_≡_}
+use mathlib.Core.Path.{_≡_, sym, _∙_}
 use mathlib.Core.Bool.{true}
 use Prim.Native.Nat.{ℕ, _+_, _<_}
 use native.Mathlib.Omega.{arith}
@@ -13,7 +13,8 @@ use Rattle.forms.specs.Stored.{netOf, stored}
 use Rattle.forms.proofs.States.{places-same}
 use Rattle.forms.proofs.Inside.{count-inside, row-limits, count-limits, outputs-inside}
 use Rattle.owed.proofs.ModelTests.{outputs-right}
-use Rattle.moves.proofs.Looked.{none-short, some-short, covered-each}
+use Rattle.moves.specs.Marking.{covered?}
+use Rattle.moves.proofs.Looked.{took, took-nothing, covered-is}
 use Rattle.moves.proofs.Fired.{known-byte}
 use Rattle.moves.proofs.Ending.{unend-unknown, unend-untimely, unend-short, unend-full, unend-done, young}
 use borrow.Author.Needs.{needs}
@@ -39,29 +40,25 @@ column c =
     young (e .args .net .now) (e .args .shape) (e .args .state .now) (e .pre) (e .args .t) (e .args .age) (known (c .before .before)) (timely c)
 
 -- where its output weights stand
-right : (c : tie.After-outputs-at) → (p : ℕ) → byte (c .before .before .before .before .before .before .before .args .net .now) (c .outputs-at .result + p) ≡ netOf (c .before .before .before .before .before .before .before .args .net .now) .gives (c .before .before .before .before .before .before .before .args .t) p
+right : (c : tie.After-outputs-at) → (p : ℕ) → byte (c .before .before .before .before .before .before .before .before .before .before .before .args .net .now) (c .outputs-at .result + p) ≡ netOf (c .before .before .before .before .before .before .before .before .before .before .before .args .net .now) .gives (c .before .before .before .before .before .before .before .before .before .before .before .args .t) p
 right c =
-    let e = c .before .before .before .before .before .before .before in
+    let e = c .before .before .before .before .before .before .before .before .before .before .before in
     outputs-right (e .args .net .now) (e .args .t) (e .args .shape .places) (c .outputs-at .result)
     (places-same (e .args .net .now) (e .args .shape) (e .pre .net-framed)) (c .outputs-at .ensures)
+
+-- the rules' test of the places is the one that the code makes
+covers : (c : tie.After-outputs-at) → covered? (c .before .before .before .before .before .before .before .before .before .before .before .args .net .now) (c .outputs-at .result) (c .before .before .before .before .before .before .before .before .before .before .before .args .state .now) (c .before .before .before .before .before .before .before .before .before .before .before .args .shape .places) ≡ covers? (netOf (c .before .before .before .before .before .before .before .before .before .before .before .args .net .now)) (stored (c .before .before .before .before .before .before .before .before .before .before .before .args .net .now) (c .before .before .before .before .before .before .before .before .before .before .before .args .state .now)) (netOf (c .before .before .before .before .before .before .before .before .before .before .before .args .net .now) .gives (c .before .before .before .before .before .before .before .before .before .before .before .args .t))
+covers c =
+    let e = c .before .before .before .before .before .before .before .before .before .before .before in
+    covered-is (e .args .net .now) (e .args .shape) (e .args .state .now) (e .pre) (c .outputs-at .result) (netOf (e .args .net .now) .gives (e .args .t)) (right c)
+
+-- the count may be one more
+free : (c : tie.Else3) → held? (c .before .before .count .result + 1) ≡ true
+free c = passed (c .before .held .ensures) (c .if3 .left)
 
 -- the buffer holds bytes
 small : (c : tie.After-slice-known) → Bytes (c .before .before .args .state .now)
 small c = λ k. omega (arith, c .slice-known .given k)
-
--- no place is short of its weight
-covered : (c : tie.Else3) → covers? (netOf (c .before .before .before .before .before .before .before .before .before .before .before .args .net .now)) (stored (c .before .before .before .before .before .before .before .before .before .before .before .args .net .now) (c .before .before .before .before .before .before .before .before .before .before .before .args .state .now)) (netOf (c .before .before .before .before .before .before .before .before .before .before .before .args .net .now) .gives (c .before .before .before .before .before .before .before .before .before .before .before .args .t)) ≡ true
-covered c =
-    let e = c .before .before .before .before .before .before .before .before .before .before .before in
-    let net = e .args .net .now in
-    let b = e .args .state .now in
-    let at = c .before .before .before .before in
-    let s = c .before .before .short-place in
-    none-short net (e .args .shape) b (e .pre) (at .outputs-at .result) (netOf net .gives (e .args .t)) (right at) (s .result) (s .ensures) (c .if3 .left)
-
--- the count may be one more
-free : (c : tie.Else4) → held? (c .before .before .count .result + 1) ≡ true
-free c = passed (c .before .held .ensures) (c .if4 .left)
 
 -- WHAT IS ASKED THERE
 
@@ -73,8 +70,7 @@ returns c =
     unend-unknown net (e .args .shape) b (e .pre) (e .args .t) (e .args .age) (c .if1 .taken)
 
 timely-requires : tie.Need-timely-requires
-timely-requires c κs =
-    (c .before .before .before .before .pre .net-framed .is-net, known c)
+timely-requires c κs = (c .before .before .before .before .pre .net-framed .is-net, known c)
 
 returns-2 : tie.Need-returns-2
 returns-2 c =
@@ -83,34 +79,8 @@ returns-2 c =
     let b = e .args .state .now in
     unend-untimely net (e .args .shape) b (e .pre) (e .args .t) (e .args .age) (known (c .before .before)) (failed (c .before .timely .ensures) (c .if2 .taken))
 
-outputs-at-requires : tie.Need-outputs-at-requires
-outputs-at-requires c κs =
-    let e = c .before .before .before .before .before .before in
-    row-limits (e .args .net .now) (e .args .shape) (e .args .state .now) (e .pre) (e .args .t) (known (c .before .before))
-
-short-place-requires : tie.Need-short-place-requires
-short-place-requires c κs =
-    let e = c .before .before .before .before .before .before .before .before in
-    outputs-inside (e .args .net .now) (e .args .shape) (e .args .state .now) (e .pre) (e .args .t) (known (c .before .before .before .before)) (c .before .outputs-at .result) (c .before .outputs-at .ensures)
-
-same-length : tie.Need-same-length
-same-length c = search needs
-
-returns-3 : tie.Need-returns-3
-returns-3 c =
-    let e = c .before .before .before .before .before .before .before .before .before .before .before in
-    let net = e .args .net .now in
-    let b = e .args .state .now in
-    let at = c .before .before .before .before in
-    let two = at .before in
-    let s = c .before .before .short-place in
-    unend-short net (e .args .shape) b (e .pre) (e .args .t) (e .args .age) (known (two .before .before)) (timely two)
-    (some-short net (e .args .shape) b (e .pre) (at .outputs-at .result) (netOf net .gives (e .args .t)) (right at) (s .result) (s .ensures) (c .if3 .taken))
-
 count-requires : tie.Need-count-requires
-count-requires c κs =
-    let two = c .before .before .before .before .before .before in
-    (two .before .before .before .before .before .before .pre, (known (two .before .before), column two))
+count-requires c κs = (c .before .before .before .before .before .before .before .pre, (known (c .before .before .before), column (c .before)))
 
 add-held : tie.Need-add-held
 add-held c = search needs
@@ -118,50 +88,59 @@ add-held c = search needs
 held-requires : tie.Need-held-requires
 held-requires c κs = search needs
 
+same-length : tie.Need-same-length
+same-length c = search needs
+
+returns-3 : tie.Need-returns-3
+returns-3 c =
+    let e = c .before .before .before .before .before .before .before .before .before .before in
+    let net = e .args .net .now in
+    let b = e .args .state .now in
+    let found = c .before .before .count in
+    unend-full net (e .args .shape) b (e .pre) (e .args .t) (e .args .age) (known (c .before .before .before .before .before .before)) (timely (c .before .before .before .before)) (found .result) (found .ensures .0) (failed (c .before .held .ensures) (c .if3 .taken))
+
+outputs-at-requires : tie.Need-outputs-at-requires
+outputs-at-requires c κs =
+    let e = c .before .before .before .before .before .before .before .before .before .before in
+    row-limits (e .args .net .now) (e .args .shape) (e .args .state .now) (e .pre) (e .args .t) (known (c .before .before .before .before .before .before))
+
+take-requires : tie.Need-take-requires
+take-requires c κs =
+    let e = c .before .before .before .before .before .before .before .before .before .before .before .before in
+    outputs-inside (e .args .net .now) (e .args .shape) (e .args .state .now) (e .pre) (e .args .t) (known (c .before .before .before .before .before .before .before .before)) (c .before .outputs-at .result) (c .before .outputs-at .ensures)
+
 same-length-2 : tie.Need-same-length-2
 same-length-2 c = search needs
 
 returns-4 : tie.Need-returns-4
 returns-4 c =
-    let e = c .before .before .before .before .before .before .before .before .before .before .before .before .before .before .before in
-    let net = e .args .net .now in
-    let b = e .args .state .now in
-    let two = c .before .before .before .before .before .before .before .before .before in
-    let q = c .before .before .count in
-    unend-full net (e .args .shape) b (e .pre) (e .args .t) (e .args .age) (known (two .before .before)) (timely two) (q .result) (q .ensures .0) (covered (c .before .before .before .before))
-    (failed (c .before .held .ensures) (c .if4 .taken))
-
-take-requires : tie.Need-take-requires
-take-requires c κs =
     let e = c .before .before .before .before .before .before .before .before .before .before .before .before .before .before .before .before in
     let net = e .args .net .now in
     let b = e .args .state .now in
-    let at = c .before .before .before .before .before .before .before .before .before in (
-      outputs-inside net (e .args .shape) b (e .pre) (e .args .t) (known (at .before .before .before)) (at .outputs-at .result) (at .outputs-at .ensures),
-      covered-each net (e .args .shape) b (e .pre) (at .outputs-at .result) (netOf net .gives (e .args .t)) (right at) (covered (c .before .before .before .before .before)),
-    )
+    let at = c .before .before .before .before .before in
+    let tried = c .before .before .before .take in
+    let refused = unend-short net (e .args .shape) b (e .pre) (e .args .t) (e .args .age) (known (c .before .before .before .before .before .before .before .before .before .before .before .before)) (timely (c .before .before .before .before .before .before .before .before .before .before)) (sym (covers at) ∙ failed (tried .ensures .0) (c .if4 .taken)) in
+    (refused .0, took-nothing net b (at .outputs-at .result) (e .args .shape .places) (tried .result) _ (tried .ensures .0) (tried .ensures .1) (c .if4 .taken) ∙ refused .1)
 
 column-requires : tie.Need-column-requires
 column-requires c κs = search needs
 
 count-at-requires : tie.Need-count-at-requires
 count-at-requires c κs =
-    let e = c .before .before .before .before .before .before .before .before .before .before .before .before .before .before .before .before .before .before .before .before .before in
-    let two = c .before .before .before .before .before .before .before .before .before .before .before .before .before .before .before in
-    count-limits (e .args .net .now) (e .args .shape) (e .args .state .now) (e .pre) (e .args .t) (known (two .before .before)) (e .args .age) (c .column .result) (column two) (c .column .ensures)
+    let e = c .before .before .before .before .before .before .before .before .before .before .before .before .before .before .before .before .before .before in
+    count-limits (e .args .net .now) (e .args .shape) (e .args .state .now) (e .pre) (e .args .t) (known (c .before .before .before .before .before .before .before .before .before .before .before .before .before .before)) (e .args .age) (c .column .result) (column (c .before .before .before .before .before .before .before .before .before .before .before .before)) (c .column .ensures)
 
 add-write16 : tie.Need-add-write16
 add-write16 c = search needs
 
 write16-requires : tie.Need-write16-requires
 write16-requires c κs =
-    let e = c .before .before .before .before .before .before .before .before .before .before .before .before .before .before .before .before .before .before .before .before .before .before in
+    let e = c .before .before .before .before .before .before .before .before .before .before .before .before .before .before .before .before .before .before .before in
     let net = e .args .net .now in
     let b = e .args .state .now in
-    let two = c .before .before .before .before .before .before .before .before .before .before .before .before .before .before .before .before in
     let to = c .before .column in (
-      omega (arith, count-inside net (e .args .shape) b (e .pre) (e .args .t) (known (two .before .before)) (e .args .age) (to .result) (c .count-at .result) (column two) (to .ensures) (c .count-at .ensures)),
-      omega (arith, leb-true (c .before .before .before .before .before .before .before .before .before .count .result + 1) tokenLimit (free (c .before .before .before .before .before .before .before))),
+      omega (arith, count-inside net (e .args .shape) b (e .pre) (e .args .t) (known (c .before .before .before .before .before .before .before .before .before .before .before .before .before .before .before)) (e .args .age) (to .result) (c .count-at .result) (column (c .before .before .before .before .before .before .before .before .before .before .before .before .before)) (to .ensures) (c .count-at .ensures)),
+      omega (arith, leb-true (c .before .before .before .before .before .before .before .before .before .before .before .count .result + 1) tokenLimit (free (c .before .before .before .before .before .before .before .before .before))),
     )
 
 same-length-3 : tie.Need-same-length-3
@@ -169,17 +148,17 @@ same-length-3 c = search needs
 
 returns-5 : tie.Need-returns-5
 returns-5 c =
-    let e = c .before .before .before .before .before .before .before .before .before .before .before .before .before .before .before .before .before .before .before .before .before .before .before .before .before in
+    let e = c .before .before .before .before .before .before .before .before .before .before .before .before .before .before .before .before .before .before .before .before .before .before in
     let net = e .args .net .now in
     let b = e .args .state .now in
-    let two = c .before .before .before .before .before .before .before .before .before .before .before .before .before .before .before .before .before .before .before in
-    let q = c .before .before .before .before .before .before .before .before .before .before .before .before .count in
-    let at = c .before .before .before .before .before .before .before .before .before .before .before .before .before .before .before .before .before .before in
-    let cell = c .before .before .before in
-    let to = cell .before .column in
-    unend-done net (e .args .shape) b (e .pre) (e .args .t) (e .args .age) (known (two .before .before)) (timely two) (q .result) (q .ensures .0) (at .outputs-at .result) (right at)
-    (small (c .before .before .before .before .before .before .before .before .before .before .before .before .before .before .before .before .before .before .before .before .before .before .before)) (to .result) (cell .count-at .result) (to .ensures) (cell .count-at .ensures) _ _
-    (covered (c .before .before .before .before .before .before .before .before .before .before .before .before .before .before)) (free (c .before .before .before .before .before .before .before .before .before .before)) (c .before .before .before .before .before .before .before .before .take .ensures) (c .before .before .write16 .ensures)
+    let found = c .before .before .before .before .before .before .before .before .before .before .before .before .before .before .count in
+    let at = c .before .before .before .before .before .before .before .before .before .before .before in
+    let tried = c .before .before .before .before .before .before .before .before .before .take in
+    let to = c .before .before .before .before .column in
+    let cell = c .before .before .before .count-at in
+    unend-done net (e .args .shape) b (e .pre) (e .args .t) (e .args .age) (known (c .before .before .before .before .before .before .before .before .before .before .before .before .before .before .before .before .before .before)) (timely (c .before .before .before .before .before .before .before .before .before .before .before .before .before .before .before .before)) (found .result) (found .ensures .0) (at .outputs-at .result) (right at)
+    (small (c .before .before .before .before .before .before .before .before .before .before .before .before .before .before .before .before .before .before .before .before)) (to .result) (cell .result) (to .ensures) (cell .ensures) _ _ (sym (covers at) ∙ passed (tried .ensures .0) (c .before .before .before .before .before .before .if4 .left)) (free (c .before .before .before .before .before .before .before .before .before .before .before .before))
+    (took net b (at .outputs-at .result) (e .args .shape .places) (tried .result) _ (tried .ensures .0) (tried .ensures .1) (c .before .before .before .before .before .before .if4 .left)) (c .before .before .write16 .ensures)
 
 pub unend-spec : {M : Type 1} → statement M
 unend-spec =
@@ -188,16 +167,15 @@ unend-spec =
     returns
     timely-requires
     returns-2
-    outputs-at-requires
-    short-place-requires
-    same-length
-    returns-3
     count-requires
     add-held
     held-requires
+    same-length
+    returns-3
+    outputs-at-requires
+    take-requires
     same-length-2
     returns-4
-    take-requires
     column-requires
     count-at-requires
     add-write16

@@ -1,42 +1,82 @@
--- `marking::give` meets its contract. The loop keeps that the markings passed are written.
+-- `marking::give` meets its contract. The loop keeps that every place passed had room for its weight, and that the weights of these are given.
 -- Assumes nothing.
 use mathlib.Core.Path.{_≡_, refl}
-use Prim.Native.Nat.{_+_, _≤_, _-_}
+use mathlib.Core.Bool.{Bool, true, false, not}
+use Prim.Native.Nat.{ℕ, _+_, _-_, _<_, _≤_}
 use native.Mathlib.Omega.{arith}
 use lib.ListN.{length}
-use Rattle.forms.specs.Word.{word, putWords}
+use Rattle.model.specs.Tab.{all}
+use Rattle.model.specs.Limits.{held?}
+use Rattle.model.proofs.Tests.{held-tells}
+use Rattle.model.proofs.Alls.{all-begin, passed, failed, holds}
+use Rattle.forms.specs.Word.{Bytes, byte, word, putWords}
 use Rattle.forms.specs.Places.{markAt}
-use Rattle.forms.proofs.Runs.{put-begin, put-turn, put-end}
+use Rattle.forms.proofs.Runs.{put-begin}
+use Rattle.owed.proofs.Passing.{pass-on, passed-zero}
 use Rattle.moves.specs.Marking.{afterGiving}
 use Rattle.moves.proofs.Marked.{mark-read}
+use Rattle.moves.proofs.Weighing.{give-on, give-turn, give-word, give-stop, give-end}
 use borrow.Author.Needs.{needs}
 use Rattle.moves.proofs.marking.give.Statement.{statement}
 use Rattle.moves.proofs.marking.give.Tie as tie
 
 abbrev Inv-loop : tie.InvT-loop
-Inv-loop net from state₀ places p₀ state p = (p ≤ places) × (length state ≡ length state₀) × (state ≡ putWords (markAt 0) p (afterGiving net from state₀) state₀)
+Inv-loop net from state₀ places p₀ state p =
+    (p ≤ places)
+    × (length state ≡ length state₀)
+    × (state ≡ putWords (markAt 0) p (afterGiving net from state₀) state₀)
+    × (all p (λ k. held? (afterGiving net from state₀ k)) ≡ true)
 
 abbrev μ-loop : tie.MeasureT-loop
 μ-loop net from state₀ places p₀ state p = places - p
 
--- what is read is what stood there at first
-stood : (k : tie.After-read16 Inv-loop μ-loop) → k .read16 .result ≡ word (k .before .before .before .before .before .before .before .before .args .state .now) (markAt (k .before .before .before .before .before .loop .p))
-stood k =
-    let at = k .before .before .before .before .before in
+-- WHAT THE CODE HAS LEARNT AT A PLACE
+
+-- the buffer holds bytes
+small : (q : tie.At-loop Inv-loop μ-loop) → Bytes (q .before .before .before .args .state .now)
+small q = λ k. omega (arith, q .before .slice-known .given k)
+
+-- the next place to look at
+on : (q : tie.After-pass-zero Inv-loop μ-loop) → (q .before .before .before .before .before .loop .p < q .pass-zero .result) × (q .pass-zero .result ≤ q .before .before .before .before .before .before .before .before .args .places)
+on q =
+    let at = q .before .before .before .before .before in
     let a = at .before .before .before .args in
-    mark-read (afterGiving (a .net .now) (a .from) (a .state .now)) (a .state .now) (at .loop .p) (at .loop .state) (k .before .before .before .mark-at .result) (k .read16 .result)
-    (at .loop .inv .2) (k .before .before .before .mark-at .ensures) (k .read16 .ensures .0)
+    rw (q .pass-zero .ensures) (pass-on (a .net .now) (a .from) (at .loop .p) (a .places) (omega arith))
+
+-- the weights before it are 0
+zeros : (q : tie.After-pass-zero Inv-loop μ-loop) → (k : ℕ) → q .before .before .before .before .before .loop .p ≤ k → k < q .pass-zero .result → byte (q .before .before .before .before .before .before .before .before .args .net .now) (q .before .before .before .before .before .before .before .before .args .from + k) ≡ 0
+zeros q k u l =
+    let at = q .before .before .before .before .before in
+    let a = at .before .before .before .args in
+    passed-zero (a .net .now) (a .from) (at .loop .p) (a .places) (omega arith) (omega arith) k u (rw (q .pass-zero .ensures) at l)
+
+-- the marking that is read is the one that stood there at first
+stood : (q : tie.After-read16 Inv-loop μ-loop) → q .read16 .result ≡ word (q .before .before .before .before .before .before .before .before .before .before .args .state .now) (markAt (q .before .before .before .before .before .before .before .loop .p))
+stood q =
+    let at = q .before .before .before .before .before .before .before in
+    let a = at .before .before .before .args in
+    mark-read (afterGiving (a .net .now) (a .from) (a .state .now)) (a .state .now) (at .loop .p) (at .loop .state) (q .before .before .mark-at .result) (q .read16 .result)
+    (at .loop .inv .2) (q .before .before .mark-at .ensures) (q .read16 .ensures .0)
+
+weight : (q : tie.After-read16 Inv-loop μ-loop) → q .before .before .before .before .wide .result ≡ byte (q .before .before .before .before .before .before .before .before .before .before .args .net .now) (q .before .before .before .before .before .before .before .before .before .before .args .from + q .before .before .before .before .before .before .before .loop .p)
+weight q = q .before .before .before .before .wide .ensures .0
+
+-- whether what the place would hold is held
+asked : (q : tie.After-read16 Inv-loop μ-loop) → q .read16 .result + q .before .before .before .before .wide .result ≡ afterGiving (q .before .before .before .before .before .before .before .before .before .before .args .net .now) (q .before .before .before .before .before .before .before .before .before .before .args .from) (q .before .before .before .before .before .before .before .before .before .before .args .state .now) (q .before .before .before .before .before .before .before .loop .p)
+asked q = omega (arith, stood q, weight q)
+
+roomy : (q : tie.After-read16 Inv-loop μ-loop) (r : Bool) → r ≡ held? (q .read16 .result + q .before .before .before .before .wide .result) → not r ≡ false → held? (afterGiving (q .before .before .before .before .before .before .before .before .before .before .args .net .now) (q .before .before .before .before .before .before .before .before .before .before .args .from) (q .before .before .before .before .before .before .before .before .before .before .args .state .now) (q .before .before .before .before .before .before .before .loop .p)) ≡ true
+roomy q r e f = rw (asked q) at (passed e f)
+
+no-room : (q : tie.After-read16 Inv-loop μ-loop) (r : Bool) → r ≡ held? (q .read16 .result + q .before .before .before .before .wide .result) → not r ≡ true → held? (afterGiving (q .before .before .before .before .before .before .before .before .before .before .args .net .now) (q .before .before .before .before .before .before .before .before .before .before .args .from) (q .before .before .before .before .before .before .before .before .before .before .args .state .now) (q .before .before .before .before .before .before .before .loop .p)) ≡ false
+no-room q r e f = rw (asked q) at (failed e f)
+
+-- WHAT IS ASKED THERE
 
 loop-holds : tie.Need-loop-holds Inv-loop μ-loop
 loop-holds c =
     let a = c .before .before .args in
-    (omega arith, refl, put-begin (markAt 0) (afterGiving (a .net .now) (a .from) (a .state .now)) (a .state .now))
-
-mark-at-requires : tie.Need-mark-at-requires Inv-loop μ-loop
-mark-at-requires c κs = search needs
-
-read16-requires : tie.Need-read16-requires Inv-loop μ-loop
-read16-requires c κs = search needs
+    (omega arith, refl, put-begin (markAt 0) (afterGiving (a .net .now) (a .from) (a .state .now)) (a .state .now), all-begin (λ k. held? (afterGiving (a .net .now) (a .from) (a .state .now) k)))
 
 add-wide : tie.Need-add-wide Inv-loop μ-loop
 add-wide c = search needs
@@ -47,34 +87,37 @@ shared-slice-read-wide c = search needs
 wide-requires : tie.Need-wide-requires Inv-loop μ-loop
 wide-requires c κs = search needs
 
-add-write16 : tie.Need-add-write16 Inv-loop μ-loop
-add-write16 c =
-    let at = c .before .before .before .before .before .before .before in
-    omega (arith, stood (c .before .before), c .wide .ensures .0, at .before .before .before .pre .1 (at .loop .p) (omega arith))
-
-write16-requires : tie.Need-write16-requires Inv-loop μ-loop
-write16-requires c κs =
-    let at = c .before .before .before .before .before .before .before in
-    omega (arith, stood (c .before .before), c .wide .ensures .0, at .before .before .before .pre .1 (at .loop .p) (omega arith))
-
-add-p : tie.Need-add-p Inv-loop μ-loop
-add-p c = search needs
+pass-zero-requires : tie.Need-pass-zero-requires Inv-loop μ-loop
+pass-zero-requires c κs = search needs
 
 loop-less : tie.Need-loop-less Inv-loop μ-loop
-loop-less c = search needs
+loop-less c = omega (arith, on c .0)
 
 loop-again : tie.Need-loop-again Inv-loop μ-loop
 loop-again c =
-    let at = c .before .before .before .before .before .before .before .before .before .before in
+    let at = c .before .before .before .before .before in
     let a = at .before .before .before .args in
-    let read = c .before .before .before .before .before in
-    let wrote = rw (read .before .before .before .mark-at .ensures) at (c .before .before .write16 .ensures) in
-    let value : read .read16 .result + c .before .before .before .wide .result ≡ afterGiving (a .net .now) (a .from) (a .state .now) (at .loop .p) =
-    omega (arith, stood read, c .before .before .before .wide .ensures .0) in (
+    let next = give-on (a .net .now) (a .from) (a .state .now) (small at) (at .loop .p) (at .loop .state) (at .loop .inv .2) (at .loop .inv .3) (c .pass-zero .result) (omega (arith, on c .0)) (zeros c) in
+    (omega (arith, on c .1), at .loop .inv .1, next .0, next .1)
+
+mark-at-requires : tie.Need-mark-at-requires Inv-loop μ-loop
+mark-at-requires c κs = search needs
+
+read16-requires : tie.Need-read16-requires Inv-loop μ-loop
+read16-requires c κs = search needs
+
+add-more : tie.Need-add-more Inv-loop μ-loop
+add-more c = search needs
+
+held-requires : tie.Need-held-requires Inv-loop μ-loop
+held-requires c κs = search needs
+
+take-back-requires : tie.Need-take-back-requires Inv-loop μ-loop
+take-back-requires c κs =
+    let at = c .before .before .before .before .before .before .before .before .before .before in
+    let a = at .before .before .before .args in (
       omega arith,
-      omega arith,
-      put-turn (markAt 0) (afterGiving (a .net .now) (a .from) (a .state .now)) (a .state .now) (at .loop .p) (at .loop .state) _ (read .read16 .result + c .before .before .before .wide .result)
-          (at .loop .inv .2) wrote value,
+      λ q l. omega (arith, give-word (a .net .now) (a .from) (a .state .now) (small at) (at .loop .p) (at .loop .state) (at .loop .inv .2) (at .loop .inv .3) (omega arith) q l),
     )
 
 same-length : tie.Need-same-length Inv-loop μ-loop
@@ -82,9 +125,38 @@ same-length c = search needs
 
 returns : tie.Need-returns Inv-loop μ-loop
 returns c =
+    let at = c .before .before .before .before .before .before .before .before .before .before .before .before .before in
+    let a = at .before .before .before .args in
+    give-stop (a .net .now) (a .from) (a .state .now) (small at) (at .loop .p) (at .loop .state) (at .loop .inv .2) (at .loop .inv .3) (a .places) (omega arith) (omega arith) (no-room (c .before .before .before .before .before .before) (c .before .before .before .before .before .held .result) (c .before .before .before .before .before .held .ensures) (c .before .before .before .before .if2 .taken)) _ (c .before .before .take-back .ensures)
+
+write16-requires : tie.Need-write16-requires Inv-loop μ-loop
+write16-requires c κs =
+    let more = c .before .before .before .read16 .result + c .before .before .before .before .before .before .before .wide .result in
+    omega (arith, holds (held-tells more) (passed (c .before .before .held .ensures) (c .before .if2 .left)))
+
+add-p : tie.Need-add-p Inv-loop μ-loop
+add-p c = search needs
+
+loop-less-2 : tie.Need-loop-less-2 Inv-loop μ-loop
+loop-less-2 c = search needs
+
+loop-again-2 : tie.Need-loop-again-2 Inv-loop μ-loop
+loop-again-2 c =
+    let at = c .before .before .before .before .before .before .before .before .before .before .before .before .before in
+    let a = at .before .before .before .args in
+    let read = c .before .before .before .before .before .before in
+    let wrote = rw (read .before .before .mark-at .ensures) at (c .before .before .write16 .ensures) in
+    let next = give-turn (a .net .now) (a .from) (a .state .now) (small at) (at .loop .p) (at .loop .state) (at .loop .inv .2) (at .loop .inv .3) (roomy read (c .before .before .before .before .before .held .result) (c .before .before .before .before .before .held .ensures) (c .before .before .before .before .if2 .left)) _ (read .read16 .result + read .before .before .before .before .wide .result) wrote (omega (arith, stood read, weight read)) in
+    (omega arith, omega arith, next .0, next .1)
+
+same-length-2 : tie.Need-same-length-2 Inv-loop μ-loop
+same-length-2 c = search needs
+
+returns-2 : tie.Need-returns-2 Inv-loop μ-loop
+returns-2 c =
     let at = c .before in
     let a = at .before .before .before .args in
-    put-end (markAt 0) (afterGiving (a .net .now) (a .from) (a .state .now)) (a .state .now) (at .loop .p) (a .places) (at .loop .state) (at .loop .inv .2) (omega arith)
+    give-end (a .net .now) (a .from) (a .state .now) (small at) (at .loop .p) (at .loop .state) (at .loop .inv .2) (at .loop .inv .3) (a .places) (omega arith) (omega arith)
 
 pub give-spec : {M : Type 1} → statement M
 give-spec =
@@ -93,15 +165,22 @@ give-spec =
     Inv-loop
     μ-loop
     loop-holds
-    mark-at-requires
-    read16-requires
     add-wide
     shared-slice-read-wide
     wide-requires
-    add-write16
-    write16-requires
-    add-p
+    pass-zero-requires
     loop-less
     loop-again
+    mark-at-requires
+    read16-requires
+    add-more
+    held-requires
+    take-back-requires
     same-length
-    returns)
+    returns
+    write16-requires
+    add-p
+    loop-less-2
+    loop-again-2
+    same-length-2
+    returns-2)

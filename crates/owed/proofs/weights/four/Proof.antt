@@ -1,0 +1,28 @@
+-- `weights::four` meets its contract: its two numbers are `fourAt`'s own.
+-- Assumes nothing.
+use Rattle.owed.specs.Weights.{fourAt}
+use borrow.Author.Needs.{needs}
+use Rattle.owed.proofs.weights.four.Statement.{statement}
+use Rattle.owed.proofs.weights.four.Tie as tie
+
+two-requires : tie.Need-two-requires
+two-requires c κs = search needs
+
+add-two : tie.Need-add-two
+add-two c = search needs
+
+two-requires-2 : tie.Need-two-requires-2
+two-requires-2 c κs = search needs
+
+mul-result : tie.Need-mul-result
+mul-result c = search needs
+
+add-result : tie.Need-add-result
+add-result c = search needs
+
+returns : tie.Need-returns
+unfolding fourAt
+returns c = search needs
+
+pub four-spec : {M : Type 1} → statement M
+four-spec = tie.close (tie.spec two-requires add-two two-requires-2 mul-result add-result returns)

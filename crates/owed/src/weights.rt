@@ -1,0 +1,47 @@
+// The weights of a transition, most of which are 0: they are passed over, and eight at once where that many are 0.
+use forms::words;
+ghost use mathlib.Core.Path.{_≡_};
+ghost use Prim.Native.Nat.{_+_, _<_, _≤_};
+ghost use lib.ListN.{length};
+ghost use Rattle.owed.specs.Weights.{twoAt, fourAt, eightZero?, passZero};
+
+// Two bytes, four and eight are read with the lowest first: on most machines that is one load.
+fn two(s: &[u8], at: usize) -> usize
+    requires { ⌜ at + 1 < length (now s) ⌝ }
+    ensures { λ r. ⌜ (r ≡ twoAt (now (s .entry)) at) × (r < 65536) ⌝ }
+{
+    words::wide(s[at]) + 256 * words::wide(s[at + 1])
+}
+
+fn four(s: &[u8], at: usize) -> usize
+    requires { ⌜ at + 3 < length (now s) ⌝ }
+    ensures { λ r. ⌜ (r ≡ fourAt (now (s .entry)) at) × (r < 4294967296) ⌝ }
+{
+    two(s, at) + 65_536 * two(s, at + 2)
+}
+
+// The eight bytes from `at` on are all 0.
+fn eight_zero(s: &[u8], at: usize) -> bool
+    requires { ⌜ at + 7 < length (now s) ⌝ }
+    ensures { λ r. ⌜ r ≡ eightZero? (now (s .entry)) at ⌝ }
+{
+    four(s, at) + 4_294_967_296 * four(s, at + 4) == 0
+}
+
+// The place to look at behind place p, whose weight is 0: eight places on where their weights are all 0, and else the next one.
+pub fn pass_zero(net: &[u8], from: usize, p: usize, places: usize) -> usize
+    requires { ⌜ (places < 256) × (p < places) × (from + places ≤ length (now net)) ⌝ }
+    ensures { λ r. ⌜ r ≡ passZero (now (net .entry)) from p places ⌝ }
+{
+    // asked first of the net alone: a compiler then makes a loop of its own for small nets
+    if places < 8 {
+        return p + 1;
+    }
+    if places - p < 8 {
+        return p + 1;
+    }
+    if eight_zero(net, from + p) {
+        return p + 8;
+    }
+    p + 1
+}
