@@ -1,28 +1,30 @@
 -- Weights that are 0 passed over: what is skipped is 0, and so a search or a loop that writes loses nothing by it.
 -- Assumes nothing.
 use mathlib.Core.Path.{_≡_, refl, sym}
+use mathlib.Core.Logic.{by-cases}
 use mathlib.Core.Bool.{Bool, true, false, _&&_, cond}
 use mathlib.Core.List.{List}
 use Prim.Native.Nat.{ℕ, _+_, _-_, _*_, _<_, _≤_}
+use native.Mathlib.Decide.{ℕ-discrete}
 use native.Mathlib.Omega.{arith}
-use lib.Dec.{T, eqb, leb}
-use borrow.Author.Tests.{le-leb, lt-leb}
+use lib.Dec.{T, leb}
+use borrow.Author.Tests.{eq-eqb, ne-eqb, le-leb, lt-leb}
 use Rattle.model.specs.Tab.{Tells, all}
 use Rattle.model.proofs.Tab.{all-tells, below-suc, below-or-past}
-use Rattle.model.proofs.Tests.{eqb-tells, told-true}
-use Rattle.model.proofs.Alls.{tells-same, holds}
+use Rattle.model.proofs.Tests.{told-true}
+use Rattle.model.proofs.Alls.{holds}
 use Rattle.forms.specs.Word.{byte}
-use Rattle.owed.specs.Weights.{twoAt, fourAt, eightZero?, passZero}
+use Rattle.owed.specs.Weights.{twoAt, fourAt, eightAt, passZero}
 
--- eight bytes are 0 exactly where the number that they make is
+-- eight bytes are 0 where the number that they make is
 module _ (s : List ℕ) (at : ℕ) where
   same : (i j : ℕ) → i ≡ j → byte s i ≡ byte s j
   same i j e = rw e
 
-  number : fourAt s at + 4294967296 * fourAt s (at + 4)
+  number : eightAt s at
       ≡ byte s (at + 0) + 256 * byte s (at + 1) + 65536 * byte s (at + 2) + 16777216 * byte s (at + 3)
       + 4294967296 * (byte s (at + 4) + 256 * byte s (at + 5) + 65536 * byte s (at + 6) + 16777216 * byte s (at + 7))
-  unfolding fourAt twoAt
+  unfolding eightAt fourAt twoAt
   number =
       omega (
         arith,
@@ -33,10 +35,8 @@ module _ (s : List ℕ) (at : ℕ) where
         same (at + 4 + 2 + 1) (at + 7) (omega arith),
       )
 
-  pub eight-is : (low high : ℕ) → low ≡ fourAt s at → high ≡ fourAt s (at + 4) → eqb (low + 4294967296 * high) 0 ≡ eightZero? s at
-  eight-is low high l h =
-      tells-same (eqb-tells (low + 4294967296 * high) 0) (all-tells 8 (λ i. eqb-tells (byte s (at + i)) 0))
-      (λ e.
+  eight-each : eightAt s at ≡ 0 → (i : ℕ) → i < 8 → byte s (at + i) ≡ 0
+  eight-each e =
       let A : ℕ → Type 0 = λ i. byte s (at + i) ≡ 0 in
       let none : (i : ℕ) → i < 0 → A i = λ i g. absurd (omega arith) in
       let z0 = below-suc A 0 (omega (arith, number)) none in
@@ -46,68 +46,45 @@ module _ (s : List ℕ) (at : ℕ) where
       let z4 = below-suc A 4 (omega (arith, number)) z3 in
       let z5 = below-suc A 5 (omega (arith, number)) z4 in
       let z6 = below-suc A 6 (omega (arith, number)) z5 in
-      below-suc A 7 (omega (arith, number)) z6)
-      (λ z.
-      omega (
-        arith,
-        number,
-        z 0 (omega arith),
-        z 1 (omega arith),
-        z 2 (omega arith),
-        z 3 (omega arith),
-        z 4 (omega arith),
-        z 5 (omega arith),
-        z 6 (omega arith),
-        z 7 (omega arith),
-      ))
+      below-suc A 7 (omega (arith, number)) z6
 
 module _ (net : List ℕ) (from p n : ℕ) where
-  -- fewer than eight places are left, or the eight are not all 0
+  -- fewer than eight places are left, or the eight weights are not all 0, or they are
   pub pass-last : n < p + 8 → p + 1 ≡ passZero net from p n
   unfolding passZero
   pass-last l = rw (lt-leb (p + 8) n l)
 
-  pub pass-one : eightZero? net (from + p) ≡ false → p + 1 ≡ passZero net from p n
+  pub pass-one : ¬ (eightAt net (from + p) ≡ 0) → p + 1 ≡ passZero net from p n
   unfolding passZero
-  pass-one e = rw e (sym (none (leb (p + 8) n)))
+  pass-one some = rw (ne-eqb (eightAt net (from + p)) 0 some) (sym (none (leb (p + 8) n)))
     where
       none : (b : Bool) → cond (b && false) (p + 8) (p + 1) ≡ p + 1
       none true = refl
       none false = refl
 
-  pub pass-eight : p + 8 ≤ n → eightZero? net (from + p) ≡ true → p + 8 ≡ passZero net from p n
+  pub pass-eight : p + 8 ≤ n → eightAt net (from + p) ≡ 0 → p + 8 ≡ passZero net from p n
   unfolding passZero
-  pass-eight l e = rw (le-leb (p + 8) n l, e)
+  pass-eight l e = rw (le-leb (p + 8) n l, eq-eqb (eightAt net (from + p)) 0 e)
+
+  -- so there are two cases
+  pass-cases : {A : Type 0} → (p + 1 ≡ passZero net from p n → A) → (p + 8 ≤ n → eightAt net (from + p) ≡ 0 → p + 8 ≡ passZero net from p n → A) → A
+  pass-cases one eight =
+      below-or-past n (p + 8) (λ few. one (pass-last few))
+      (λ many. by-cases (ℕ-discrete (eightAt net (from + p)) 0) (λ e. eight many e (pass-eight many e)) (λ some. one (pass-one some)))
 
   -- where p is one of n places
   module _ (l : p < n) where
     pub pass-on : (p < passZero net from p n) × (passZero net from p n ≤ n)
-    pass-on =
-        below-or-past n (p + 8)
-        (λ few. rw (← pass-last few) (omega arith, omega arith))
-        (λ many. go many (eightZero? net (from + p)) refl)
-      where
-        go : p + 8 ≤ n → (b : Bool) → eightZero? net (from + p) ≡ b → (p < passZero net from p n) × (passZero net from p n ≤ n)
-        go many true e = rw (← pass-eight many e) (omega arith, omega arith)
-        go many false e = rw (← pass-one e) (omega arith, omega arith)
+    pass-on = pass-cases (λ e. (omega arith, omega arith)) (λ many z e. (omega arith, omega arith))
 
     -- the weights of the places passed over are 0, where that of p is
     pub passed-zero : byte net (from + p) ≡ 0 → (q : ℕ) → p ≤ q → q < passZero net from p n → byte net (from + q) ≡ 0
     passed-zero zero-here q up below =
-        below-or-past n (p + 8)
-        (λ few. here (omega (arith, pass-last few)))
-        (λ many. go many (eightZero? net (from + p)) refl)
-      where
-        here : q ≡ p → byte net (from + q) ≡ 0
-        here e = rw e zero-here
-
-        go : p + 8 ≤ n → (b : Bool) → eightZero? net (from + p) ≡ b → byte net (from + q) ≡ 0
-        go many true e =
-            let k = q - p in
-            let place : from + p + k ≡ from + q = omega arith in
-            let z : byte net (from + p + k) ≡ 0 = holds (all-tells 8 (λ i. eqb-tells (byte net (from + p + i)) 0)) e k (omega (arith, pass-eight many e)) in
-            rw place at z
-        go many false e = here (omega (arith, pass-one e))
+        pass-cases
+        (λ e. let here : q ≡ p = omega arith in rw here zero-here)
+        (λ many z e.
+        let place : from + p + (q - p) ≡ from + q = omega arith in
+        rw place at (eight-each net (from + p) z (q - p) (omega arith)))
 
 -- a loop that has passed the test f at each number below p, and passes on to r
 pub all-on : (f : ℕ → Bool) (p r : ℕ) → all p f ≡ true → ((q : ℕ) → p ≤ q → q < r → f q ≡ true) → all r f ≡ true

@@ -3,9 +3,10 @@ use forms::words;
 ghost use mathlib.Core.Path.{_≡_};
 ghost use Prim.Native.Nat.{_+_, _<_, _≤_};
 ghost use lib.ListN.{length};
-ghost use Rattle.owed.specs.Weights.{twoAt, fourAt, eightZero?, passZero};
+ghost use Rattle.owed.specs.Weights.{twoAt, fourAt, eightAt, passZero};
 
-// Two bytes, four and eight are read with the lowest first: on most machines that is one load.
+// Two, four and eight bytes as a number, the lowest first. Each is a number of its own function, and not a test of one: only so does a
+// compiler make one load of eight bytes of it.
 fn two(s: &[u8], at: usize) -> usize
     requires { ⌜ at + 1 < length (now s) ⌝ }
     ensures { λ r. ⌜ (r ≡ twoAt (now (s .entry)) at) × (r < 65536) ⌝ }
@@ -20,12 +21,11 @@ fn four(s: &[u8], at: usize) -> usize
     two(s, at) + 65_536 * two(s, at + 2)
 }
 
-// The eight bytes from `at` on are all 0.
-fn eight_zero(s: &[u8], at: usize) -> bool
+fn eight(s: &[u8], at: usize) -> usize
     requires { ⌜ at + 7 < length (now s) ⌝ }
-    ensures { λ r. ⌜ r ≡ eightZero? (now (s .entry)) at ⌝ }
+    ensures { λ r. ⌜ r ≡ eightAt (now (s .entry)) at ⌝ }
 {
-    four(s, at) + 4_294_967_296 * four(s, at + 4) == 0
+    four(s, at) + 4_294_967_296 * four(s, at + 4)
 }
 
 // The place to look at behind place p, whose weight is 0: eight places on where their weights are all 0, and else the next one.
@@ -40,7 +40,7 @@ pub fn pass_zero(net: &[u8], from: usize, p: usize, places: usize) -> usize
     if places - p < 8 {
         return p + 1;
     }
-    if eight_zero(net, from + p) {
+    if eight(net, from + p) == 0 {
         return p + 8;
     }
     p + 1

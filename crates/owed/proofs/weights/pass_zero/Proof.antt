@@ -22,11 +22,11 @@ add-result-2 c = search needs
 returns-2 : tie.Need-returns-2
 returns-2 c = let a = c .before .before .before .args in pass-last (a .net .now) (a .from) (a .p) (a .places) (omega arith)
 
-add-eight-zero : tie.Need-add-eight-zero
-add-eight-zero c = search needs
+add-eight : tie.Need-add-eight
+add-eight c = search needs
 
-eight-zero-requires : tie.Need-eight-zero-requires
-eight-zero-requires c κs = search needs
+eight-requires : tie.Need-eight-requires
+eight-requires c κs = search needs
 
 add-result-3 : tie.Need-add-result-3
 add-result-3 c = search needs
@@ -34,7 +34,7 @@ add-result-3 c = search needs
 returns-3 : tie.Need-returns-3
 returns-3 c =
     let a = c .before .before .before .before .before .args in
-    pass-eight (a .net .now) (a .from) (a .p) (a .places) (omega arith) (sym (c .before .eight-zero .ensures) ∙ c .if3 .taken)
+    pass-eight (a .net .now) (a .from) (a .p) (a .places) (omega arith) (sym (c .before .eight .ensures) ∙ c .if3 .taken)
 
 add-result-4 : tie.Need-add-result-4
 add-result-4 c = search needs
@@ -42,7 +42,7 @@ add-result-4 c = search needs
 returns-4 : tie.Need-returns-4
 returns-4 c =
     let a = c .before .before .before .before .before .args in
-    pass-one (a .net .now) (a .from) (a .p) (a .places) (sym (c .before .eight-zero .ensures) ∙ c .if3 .left)
+    pass-one (a .net .now) (a .from) (a .p) (a .places) (λ z. c .if3 .left (c .before .eight .ensures ∙ z))
 
 pub pass-zero-spec : {M : Type 1} → statement M
 pass-zero-spec =
@@ -53,8 +53,8 @@ pass-zero-spec =
     sub-if2
     add-result-2
     returns-2
-    add-eight-zero
-    eight-zero-requires
+    add-eight
+    eight-requires
     add-result-3
     returns-3
     add-result-4
