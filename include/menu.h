@@ -1,19 +1,26 @@
 /*
  * The calls of the menu engine, for C (C99 and later) and C++.
  *
- * Link with libmenu.a, which is compiled for x86-64 Linux. The functions are proved: each answers and writes exactly what the
- * scope of the build (document 01) says, whatever bytes it is given, and each ends. docs/C.md is a page on how to use them.
+ * Link with libmenu.a, which is compiled for x86-64 Linux. The functions are proved: whatever bytes it is given, each answers and
+ * writes exactly what the scope of the build (document 01) says, and ends. What a caller needs of that document stands here;
+ * docs/C.md is a page on how to use the functions.
  *
  * STORED FORMS. All numbers are big-endian. Each form begins with a version byte, 1, and the length of the whole form in 4 bytes.
  *
  *   net    version, length, P (1 byte), T (1 byte); P initial markings of 2 bytes; then for each transition sfd, lfd, P input
  *          weights and P output weights, 1 byte each. 7 + 2P + T(2 + 2P) bytes.
  *   state  version, length, P, T, D (1 byte each); P markings of 2 bytes; for each transition, D counts of 2 bytes, by age.
- *          D is the largest lfd plus 1. 8 + 2P + 2TD bytes.
+ *          D is the largest lfd plus 1. 8 + 2P + 2TD bytes. So P, T and D are bytes 5, 6 and 7, the marking of place p stands at
+ *          byte 8 + 2p, and the count of transition t's firings at an age at byte 8 + 2P + 2(tD + age).
  *   log    version, length, then 2 bytes for each event: 0 0 is a tick; 1 + t and 0 the start of transition t; 65 + t and an age
  *          the end of a firing of transition t that is that many ticks old.
  *
- * P, the places, and T, the transitions, are 1 to 64 and numbered from 0. A firing of a transition lasts sfd to lfd ticks.
+ * P, the places, and T, the transitions, are 1 to 64 and numbered from 0. A firing of a transition lasts sfd to lfd ticks. A tick
+ * is the net designer's unit of time: the library knows no clock.
+ *
+ * EVENTS. A transition is enabled where every place holds at least its input weight. A start takes the input weights from the
+ * marking and begins a firing, of age 0. An end takes away one firing of its transition and age, and the output weights join the
+ * marking. A tick makes every firing one tick older. When each is refused is said at numbers 11 to 21.
  *
  * WHAT A CALLER LENDS
  *
@@ -22,22 +29,36 @@
  * - `net` and `log` are exactly the form: a longer buffer is refused. They are only read.
  * - `state` may be longer than the state, which stands at its front. The bytes behind it are never written, and
  *   MENU_STATE_BYTES_MAX bytes are enough for every net.
- * - `answer` is one struct of the call's own type. Every call writes all of its fields.
- * - Pointers are not NULL, not even where the length is 0, and as many bytes as told lie behind them. `answer`, and `state` where
- *   it is not const, overlap no other buffer of the call. While it runs no one else uses these two or writes the others.
+ * - `answer` is one struct of the call's own type, aligned as such. Every call writes all of its fields. The other buffers may
+ *   stand at any address.
+ * - Pointers are not NULL, and as many bytes as told lie behind them. Where the length is 0 (the data() of an empty std::vector may
+ *   be NULL) lend any other address.
+ * - `answer`, and `state` where it is not const, overlap no other buffer of the call. While it runs no one else uses these two or
+ *   writes the others.
  *
  * WHAT A CALL LEAVES
  *
- * - Accepted (number 0): the state after the event, the log or the walk.
- * - Refused by 1 to 10, 22 or 23: nothing was written but the answer.
- * - Refused by another number: the state that stood when the refused event had its turn, to be done or to be taken back.
- * - In a refused answer all fields but number and index are 0. A run or a walk that stopped at an event tells how far it came.
+ * Nothing is written but the answer, and `state` where it is not const. There stands then:
  *
- * The functions keep nothing from one call to the next, use no heap and do no input or output. Several threads may call them at
- * the same time, each with a state and an answer of its own.
+ * - Accepted (number 0): the state after the event, the log or the walk; of menu_initial, the initial state.
+ * - Refused by 1 to 10 or 22: every byte as it was.
+ * - Refused by another number: the state that stood when the refused event had its turn, to be done or to be taken back.
+ *
+ * In a refused answer all fields but number and index are 0. A run or a walk that stopped at an event tells how far it came.
+ *
+ * A long log may be run in portions, each a log with its own head, run from the state that the one before left, until one is
+ * refused. That ends as a run of the whole does; but each portion's answer counts from its own front.
+ *
+ * The functions keep nothing from one call to the next, have no data that is written, use no heap and do no input or output. A call
+ * takes less than 512 bytes of stack. So threads and signal handlers may call them at any time, each with a state and an answer of
+ * its own.
  */
 #ifndef MENU_H
 #define MENU_H
+
+#if !defined(__x86_64__) || defined(__ILP32__)
+#error "libmenu.a is compiled for x86-64 with pointers of 64 bits"
+#endif
 
 #include <stddef.h>
 #include <stdint.h>
@@ -54,9 +75,21 @@ extern "C" {
 #define MENU_EVENTS_MAX 24000      /* of a log */
 #define MENU_TOKENS_MAX 65535      /* of a place, and the firings of one transition at one age */
 
-#define MENU_NET_BYTES_MAX 8455    /* the longest lawful net */
-#define MENU_STATE_BYTES_MAX 8328  /* its state */
-#define MENU_LOG_BYTES_MAX 48005   /* the longest lawful log */
+/* LENGTHS of the forms, with P places, T transitions and the state's D, and of the longest lawful ones */
+
+#define MENU_NET_BYTES(P, T) (7 + 2 * (P) + (T) * (2 + 2 * (P)))
+#define MENU_STATE_BYTES(P, T, D) (8 + 2 * (P) + 2 * (T) * (D))
+#define MENU_LOG_BYTES(events) (5 + 2 * (events))
+
+#define MENU_NET_BYTES_MAX MENU_NET_BYTES(MENU_PLACES_MAX, MENU_TRANSITIONS_MAX)                          /* 8,455 */
+#define MENU_STATE_BYTES_MAX MENU_STATE_BYTES(MENU_PLACES_MAX, MENU_TRANSITIONS_MAX, MENU_TICKS_MAX + 1)  /* 8,328 */
+#define MENU_LOG_BYTES_MAX MENU_LOG_BYTES(MENU_EVENTS_MAX)                                                /* 48,005 */
+
+/* THE FIRST BYTE of an event, t being 0 to 63. The second is 0, or the age of the firing that ends. */
+
+#define MENU_TICK 0
+#define MENU_START(t) ((uint8_t)(1 + (t)))
+#define MENU_END(t) ((uint8_t)(65 + (t)))
 
 /*
  * NUMBERS, the field `number` of each answer. Of several faults the first is told: of the net, the room, the state, the log, the
