@@ -12,15 +12,15 @@
 #include "menu.h"
 
 static const uint8_t row_net[] = {
-    0x01, 0x00, 0x00, 0x00, 0x1D, 0x03, 0x02,       /* version, length, three places, two transitions */
-    0x00, 0x01, 0x00, 0x00, 0x00, 0x00,             /* a token in place 0 */
-    0x01, 0x03, 0x01, 0x00, 0x00, 0x00, 0x01, 0x00, /* 0 loads the own file: 1 to 3 ticks, from place 0 to place 1 */
-    0x00, 0x00, 0x00, 0x01, 0x00, 0x00, 0x00, 0x01, /* 1 fills the row: at once, from place 1 to place 2 */
+    1, 0, 0, 0, MENU_NET_BYTES(3, 2), 3, 2, /* version, length, three places, two transitions */
+    0, 1, 0, 0, 0, 0,                       /* a token in place 0 */
+    1, 3, 1, 0, 0, 0, 1, 0,                 /* 0 loads the own file: 1 to 3 ticks, from place 0 to place 1 */
+    0, 0, 0, 1, 0, 0, 0, 1,                 /* 1 fills the row: at once, from place 1 to place 2 */
 };
 
 static const uint8_t row_log[] = {
-    0x01, 0x00, 0x00, 0x00, 0x0F,                               /* version, length */
-    0x01, 0x00, 0x00, 0x00, 0x41, 0x01, 0x02, 0x00, 0x42, 0x00, /* start 0, tick, end 0 at age 1, start 1, end 1 at age 0 */
+    1, 0, 0, 0, MENU_LOG_BYTES(5), /* version, length */
+    MENU_START(0), 0, MENU_TICK, 0, MENU_END(0), 1, MENU_START(1), 0, MENU_END(1), 0,
 };
 
 /* One byte more than a lawful log has, so that a log that is too long is seen to be so. */
