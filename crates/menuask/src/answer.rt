@@ -5,13 +5,15 @@ use engine::calls;
 use owed::report::OwedSet;
 use runs::told::Told;
 use text::line;
-ghost use Prim.Native.Nat.{_+_, _*_, _≤_};
+ghost use Prim.Native.Nat.{_+_, _*_, _<_, _≤_};
 ghost use lib.ListN.{length};
+ghost use Rattle.text.specs.Lines.{fieldMost};
+ghost use Rattle.menuask.specs.Sizes.{sliceMost, nameMost, verdictMost, courseMost, setsMost, bufferMost, lineMost};
 
 // A blank and a buffer in hex, or `-` for an empty one.
 fn buffer(out: &mut [u8], at: usize, state: &[u8]) -> usize
-    requires { ⌜ at + 2 + 2 * length (now state) ≤ length (now out) ⌝ }
-    ensures { λ r. ⌜ r ≤ at + 2 + 2 * length (now (state .entry)) ⌝ }
+    requires { ⌜ at + bufferMost (length (now state)) ≤ length (now out) ⌝ }
+    ensures { λ r. ⌜ r ≤ at + bufferMost (length (now (state .entry))) ⌝ }
 {
     let from = line::put_byte(out, at, b' ');
     if state.len() == 0 {
@@ -22,8 +24,8 @@ fn buffer(out: &mut [u8], at: usize, state: &[u8]) -> usize
 
 // A name, a number and an index.
 fn verdict(out: &mut [u8], name: &[u8], told: Verdict) -> usize
-    requires { ⌜ (length (now name) ≤ 16) × (100 ≤ length (now out)) ⌝ }
-    ensures { λ r. ⌜ r ≤ 58 ⌝ }
+    requires { ⌜ (length (now name) ≤ nameMost) × (verdictMost ≤ length (now out)) ⌝ }
+    ensures { λ r. ⌜ r ≤ verdictMost ⌝ }
 {
     let at = line::put_bytes(out, 0, name);
     let number = line::put_field(out, at, told.number as u64);
@@ -32,8 +34,8 @@ fn verdict(out: &mut [u8], name: &[u8], told: Verdict) -> usize
 
 // A name and what a run or a walk tells.
 fn course(out: &mut [u8], name: &[u8], told: Told) -> usize
-    requires { ⌜ (length (now name) ≤ 16) × (200 ≤ length (now out)) ⌝ }
-    ensures { λ r. ⌜ r ≤ 100 ⌝ }
+    requires { ⌜ (length (now name) ≤ nameMost) × (courseMost ≤ length (now out)) ⌝ }
+    ensures { λ r. ⌜ r ≤ courseMost ⌝ }
 {
     let at = line::put_bytes(out, 0, name);
     let number = line::put_field(out, at, told.number as u64);
@@ -43,15 +45,15 @@ fn course(out: &mut [u8], name: &[u8], told: Told) -> usize
 }
 
 fn check_net(out: &mut [u8], net: &[u8]) -> usize
-    requires { ⌜ 40000 ≤ length (now out) ⌝ }
-    ensures { λ r. ⌜ r ≤ 39000 ⌝ }
+    requires { ⌜ lineMost < length (now out) ⌝ }
+    ensures { λ r. ⌜ r ≤ lineMost ⌝ }
 {
     verdict(out, b"check_net", calls::check_net(net))
 }
 
 fn initial(out: &mut [u8], net: &[u8], state: &mut [u8]) -> usize
-    requires { ⌜ (40000 ≤ length (now out)) × (length (now state) ≤ 16384) ⌝ }
-    ensures { λ r. ⌜ r ≤ 39000 ⌝ }
+    requires { ⌜ (lineMost < length (now out)) × (length (now state) ≤ sliceMost) ⌝ }
+    ensures { λ r. ⌜ r ≤ lineMost ⌝ }
 {
     let told = calls::initial(net, state);
     let at = verdict(out, b"initial", told);
@@ -59,15 +61,15 @@ fn initial(out: &mut [u8], net: &[u8], state: &mut [u8]) -> usize
 }
 
 fn check_state(out: &mut [u8], net: &[u8], state: &[u8]) -> usize
-    requires { ⌜ 40000 ≤ length (now out) ⌝ }
-    ensures { λ r. ⌜ r ≤ 39000 ⌝ }
+    requires { ⌜ lineMost < length (now out) ⌝ }
+    ensures { λ r. ⌜ r ≤ lineMost ⌝ }
 {
     verdict(out, b"check_state", calls::check_state(net, state))
 }
 
 fn event(out: &mut [u8], net: &[u8], state: &mut [u8], first: u8, second: u8) -> usize
-    requires { ⌜ (40000 ≤ length (now out)) × (length (now state) ≤ 16384) ⌝ }
-    ensures { λ r. ⌜ r ≤ 39000 ⌝ }
+    requires { ⌜ (lineMost < length (now out)) × (length (now state) ≤ sliceMost) ⌝ }
+    ensures { λ r. ⌜ r ≤ lineMost ⌝ }
 {
     let told = calls::event(net, state, first, second);
     let at = verdict(out, b"event", told);
@@ -75,8 +77,8 @@ fn event(out: &mut [u8], net: &[u8], state: &mut [u8], first: u8, second: u8) ->
 }
 
 fn back(out: &mut [u8], net: &[u8], state: &mut [u8], first: u8, second: u8) -> usize
-    requires { ⌜ (40000 ≤ length (now out)) × (length (now state) ≤ 16384) ⌝ }
-    ensures { λ r. ⌜ r ≤ 39000 ⌝ }
+    requires { ⌜ (lineMost < length (now out)) × (length (now state) ≤ sliceMost) ⌝ }
+    ensures { λ r. ⌜ r ≤ lineMost ⌝ }
 {
     let told = calls::back(net, state, first, second);
     let at = verdict(out, b"back", told);
@@ -84,8 +86,8 @@ fn back(out: &mut [u8], net: &[u8], state: &mut [u8], first: u8, second: u8) -> 
 }
 
 fn degree(out: &mut [u8], net: &[u8], state: &[u8], t: usize) -> usize
-    requires { ⌜ 40000 ≤ length (now out) ⌝ }
-    ensures { λ r. ⌜ r ≤ 39000 ⌝ }
+    requires { ⌜ lineMost < length (now out) ⌝ }
+    ensures { λ r. ⌜ r ≤ lineMost ⌝ }
 {
     let told = calls::degree(net, state, t);
     let at = line::put_bytes(out, 0, b"degree");
@@ -96,8 +98,8 @@ fn degree(out: &mut [u8], net: &[u8], state: &[u8], t: usize) -> usize
 
 // Two numbers: of the enabled transitions, and of the due ones.
 fn pair(out: &mut [u8], at: usize, enabled: u64, due: u64) -> usize
-    requires { ⌜ at + 42 ≤ length (now out) ⌝ }
-    ensures { λ r. ⌜ r ≤ at + 42 ⌝ }
+    requires { ⌜ at + 2 * fieldMost ≤ length (now out) ⌝ }
+    ensures { λ r. ⌜ r ≤ at + 2 * fieldMost ⌝ }
 {
     let behind = line::put_field(out, at, enabled);
     line::put_field(out, behind, due)
@@ -105,8 +107,8 @@ fn pair(out: &mut [u8], at: usize, enabled: u64, due: u64) -> usize
 
 // The two words, the number of set bits of each, the lowest of each, and the standing.
 fn sets(out: &mut [u8], at: usize, starts: OwedSet, ends: OwedSet, standing: u8) -> usize
-    requires { ⌜ at + 147 ≤ length (now out) ⌝ }
-    ensures { λ r. ⌜ r ≤ at + 147 ⌝ }
+    requires { ⌜ at + setsMost ≤ length (now out) ⌝ }
+    ensures { λ r. ⌜ r ≤ at + setsMost ⌝ }
 {
     let words = pair(out, at, starts.word, ends.word);
     let ones = pair(out, words, starts.count as u64, ends.count as u64);
@@ -115,8 +117,8 @@ fn sets(out: &mut [u8], at: usize, starts: OwedSet, ends: OwedSet, standing: u8)
 }
 
 fn owed(out: &mut [u8], net: &[u8], state: &[u8]) -> usize
-    requires { ⌜ 40000 ≤ length (now out) ⌝ }
-    ensures { λ r. ⌜ r ≤ 39000 ⌝ }
+    requires { ⌜ lineMost < length (now out) ⌝ }
+    ensures { λ r. ⌜ r ≤ lineMost ⌝ }
 {
     let told = calls::owed(net, state);
     let at = line::put_bytes(out, 0, b"owed");
@@ -126,8 +128,8 @@ fn owed(out: &mut [u8], net: &[u8], state: &[u8]) -> usize
 }
 
 fn run(out: &mut [u8], net: &[u8], state: &mut [u8], log: &[u8]) -> usize
-    requires { ⌜ (40000 ≤ length (now out)) × (length (now state) ≤ 16384) ⌝ }
-    ensures { λ r. ⌜ r ≤ 39000 ⌝ }
+    requires { ⌜ (lineMost < length (now out)) × (length (now state) ≤ sliceMost) ⌝ }
+    ensures { λ r. ⌜ r ≤ lineMost ⌝ }
 {
     let told = calls::run(net, state, log);
     let at = course(out, b"run", told);
@@ -135,8 +137,8 @@ fn run(out: &mut [u8], net: &[u8], state: &mut [u8], log: &[u8]) -> usize
 }
 
 fn walk(out: &mut [u8], net: &[u8], state: &mut [u8], log: &[u8], n: usize) -> usize
-    requires { ⌜ (40000 ≤ length (now out)) × (length (now state) ≤ 16384) ⌝ }
-    ensures { λ r. ⌜ r ≤ 39000 ⌝ }
+    requires { ⌜ (lineMost < length (now out)) × (length (now state) ≤ sliceMost) ⌝ }
+    ensures { λ r. ⌜ r ≤ lineMost ⌝ }
 {
     let told = calls::walk(net, state, log, n);
     let at = course(out, b"walk", told);
@@ -144,8 +146,8 @@ fn walk(out: &mut [u8], net: &[u8], state: &mut [u8], log: &[u8], n: usize) -> u
 }
 
 fn step(out: &mut [u8], log: &[u8], k: usize) -> usize
-    requires { ⌜ 40000 ≤ length (now out) ⌝ }
-    ensures { λ r. ⌜ r ≤ 39000 ⌝ }
+    requires { ⌜ lineMost < length (now out) ⌝ }
+    ensures { λ r. ⌜ r ≤ lineMost ⌝ }
 {
     let told = calls::step_told(log, k);
     let at = line::put_bytes(out, 0, b"step");
@@ -165,8 +167,8 @@ fn fields(
     state: &mut [u8],
     log: &[u8],
 ) -> usize
-    requires { ⌜ (40000 ≤ length (now out)) × (length (now state) ≤ 16384) ⌝ }
-    ensures { λ r. ⌜ r ≤ 39000 ⌝ }
+    requires { ⌜ (lineMost < length (now out)) × (length (now state) ≤ sliceMost) ⌝ }
+    ensures { λ r. ⌜ r ≤ lineMost ⌝ }
 {
     match kind {
         1 => check_net(out, net),
@@ -192,7 +194,7 @@ pub fn answer(
     state: &mut [u8],
     log: &[u8],
 ) -> usize
-    requires { ⌜ (40000 ≤ length (now out)) × (length (now state) ≤ 16384) ⌝ }
+    requires { ⌜ (lineMost < length (now out)) × (length (now state) ≤ sliceMost) ⌝ }
     requires { ⌜ (request .net ≤ length (now net)) × (request .state ≤ length (now state)) × (request .log ≤ length (now log)) ⌝ }
     ensures { λ r. ⌜ r ≤ length (now (out .exit)) ⌝ }
 {

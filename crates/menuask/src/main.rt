@@ -4,8 +4,12 @@ mod request;
 
 use libc::STDOUT_FILENO;
 use request::Feed;
-ghost use Prim.Native.Nat.{_≤_};
+ghost use Prim.Native.Nat.{_<_, _≤_};
 ghost use lib.ListN.{length};
+ghost use Rattle.menuask.specs.Sizes.{sliceMost, lineMost};
+
+// A net or a state of a request has at most so many bytes (docs/ASK.md): more than any lawful one.
+const SLICE_MOST: usize = 16384;
 
 // Answers one request, and answers the feed behind it: closed where the input has ended or the request was bad.
 fn serve(
@@ -17,7 +21,7 @@ fn serve(
     log: &mut [u8],
 ) -> Feed
     requires { ⌜ feed .end ≤ length (now block) ⌝ }
-    requires { ⌜ (40000 ≤ length (now out)) × (length (now state) ≤ 16384) ⌝ }
+    requires { ⌜ (lineMost < length (now out)) × (length (now state) ≤ sliceMost) ⌝ }
     ensures { λ r. ⌜ r .end ≤ length (now (block .exit)) ⌝ }
 {
     let kind = request::next(block, feed);
@@ -40,7 +44,7 @@ fn serve(
 
 // A proved loop has to end, and nothing says that the input does. So the loop counts its turns down, from a number that no run uses up.
 fn serve_all(block: &mut [u8], out: &mut [u8], net: &mut [u8], state: &mut [u8], log: &mut [u8])
-    requires { ⌜ (40000 ≤ length (now out)) × (length (now state) ≤ 16384) ⌝ }
+    requires { ⌜ (lineMost < length (now out)) × (length (now state) ≤ sliceMost) ⌝ }
 {
     let mut feed = Feed {
         at: 0,
@@ -54,12 +58,12 @@ fn serve_all(block: &mut [u8], out: &mut [u8], net: &mut [u8], state: &mut [u8],
     }
 }
 
-// A net and a state have 16,384 bytes at most, a log 65,536.
+// A log has as many bytes as a large buffer at most, 65,536.
 fn main() {
     let mut block = io::large_buffer();
     let mut out = io::large_buffer();
-    let mut net = [0u8; 16384];
-    let mut state = [0u8; 16384];
+    let mut net = [0u8; SLICE_MOST];
+    let mut state = [0u8; SLICE_MOST];
     let mut log = io::large_buffer();
     serve_all(&mut block, &mut out, &mut net, &mut state, &mut log);
 }

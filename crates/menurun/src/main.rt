@@ -7,10 +7,11 @@ use libc::STDOUT_FILENO;
 use replay::input;
 ghost use Prim.Native.Nat.{_≤_};
 ghost use lib.ListN.{length};
+ghost use Rattle.menurun.specs.Sizes.{leastBuffer};
 
 // The net and the log that arrived are replayed, and what came of it is printed.
 fn answer(arrived: &[u8], state: &mut [u8], out: &mut [u8])
-    requires { ⌜ 10000 ≤ length (now out) ⌝ }
+    requires { ⌜ leastBuffer ≤ length (now out) ⌝ }
 {
     let told = input::replay(arrived, state);
     let number = told.number;

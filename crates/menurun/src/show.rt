@@ -10,11 +10,16 @@ ghost use Prim.Native.Nat.{_+_, _*_, _<_, _≤_};
 ghost use lib.ListN.{length};
 ghost use Rattle.forms.specs.Places.{stateLength};
 ghost use Rattle.replay.specs.Replayed.{Shown};
+ghost use Rattle.text.specs.Lines.{fieldMost};
+ghost use Rattle.menurun.specs.Sizes.{resultMost, runMost, leastBuffer};
+
+// The line of a count has at most so many bytes: its name, transition, age and count, and its end.
+const RUN_MOST: usize = 3 + 3 * line::FIELD_MOST + 1;
 
 // The five fields of the result.
 fn fields(out: &mut [u8], at: usize, told: Replayed) -> usize
-    requires { ⌜ at + 105 ≤ length (now out) ⌝ }
-    ensures { λ r. ⌜ r ≤ at + 105 ⌝ }
+    requires { ⌜ at + 5 * fieldMost ≤ length (now out) ⌝ }
+    ensures { λ r. ⌜ r ≤ at + 5 * fieldMost ⌝ }
 {
     let number = line::put_field(out, at, told.number as u64);
     let index = line::put_field(out, number, told.index as u64);
@@ -25,8 +30,8 @@ fn fields(out: &mut [u8], at: usize, told: Replayed) -> usize
 
 // The line of the result, at the buffer's front.
 pub fn result(out: &mut [u8], told: Replayed) -> usize
-    requires { ⌜ 200 ≤ length (now out) ⌝ }
-    ensures { λ r. ⌜ r ≤ 200 ⌝ }
+    requires { ⌜ resultMost ≤ length (now out) ⌝ }
+    ensures { λ r. ⌜ r ≤ resultMost ⌝ }
 {
     let name = line::put_bytes(out, 0, b"result");
     let end = fields(out, name, told);
@@ -35,9 +40,9 @@ pub fn result(out: &mut [u8], told: Replayed) -> usize
 
 // The line of the markings, place by place.
 fn marks(out: &mut [u8], at: usize, state: &[u8], places: usize) -> usize
-    requires { ⌜ (at ≤ 200) × (10000 ≤ length (now out)) ⌝ }
+    requires { ⌜ (at ≤ resultMost) × (leastBuffer ≤ length (now out)) ⌝ }
     requires { ⌜ (places < 256) × (8 + 2 * places ≤ length (now state)) ⌝ }
-    ensures { λ r. ⌜ r ≤ 10000 ⌝ }
+    ensures { λ r. ⌜ r ≤ leastBuffer ⌝ }
 {
     let mut end = line::put_bytes(out, at, b"marks");
     let mut p = 0;
@@ -49,12 +54,12 @@ fn marks(out: &mut [u8], at: usize, state: &[u8], places: usize) -> usize
     line::put_byte(out, end, b'\n')
 }
 
-// Where the next line begins: at the front, once what was gathered is written, where fewer than 100 bytes are left.
+// Where the next line begins: at the front, once what was gathered is written, where a line of a count may not fit any more.
 fn room(out: &[u8], at: usize) -> usize
-    requires { ⌜ (at ≤ length (now out)) × (10000 ≤ length (now out)) ⌝ }
-    ensures { λ r. ⌜ r + 100 ≤ length (now (out .entry)) ⌝ }
+    requires { ⌜ (at ≤ length (now out)) × (leastBuffer ≤ length (now out)) ⌝ }
+    ensures { λ r. ⌜ r + runMost ≤ length (now (out .entry)) ⌝ }
 {
-    if 100 <= out.len() - at {
+    if RUN_MOST <= out.len() - at {
         return at;
     }
     io::write_all(STDOUT_FILENO, &out[..at]);
@@ -63,8 +68,8 @@ fn room(out: &[u8], at: usize) -> usize
 
 // The line of a count.
 fn firings(out: &mut [u8], at: usize, t: usize, age: u8, count: usize) -> usize
-    requires { ⌜ at + 100 ≤ length (now out) ⌝ }
-    ensures { λ r. ⌜ r ≤ at + 100 ⌝ }
+    requires { ⌜ at + runMost ≤ length (now out) ⌝ }
+    ensures { λ r. ⌜ r ≤ at + runMost ⌝ }
 {
     let name = line::put_bytes(out, at, b"run");
     let transition = line::put_field(out, name, t as u64);
@@ -75,7 +80,7 @@ fn firings(out: &mut [u8], at: usize, t: usize, age: u8, count: usize) -> usize
 
 // The line of a transition's count at an age, where it is above 0.
 fn cell(out: &mut [u8], at: usize, state: &[u8], shape: Net, t: usize, age: u8) -> usize
-    requires { ⌜ (at ≤ length (now out)) × (10000 ≤ length (now out)) ⌝ }
+    requires { ⌜ (at ≤ length (now out)) × (leastBuffer ≤ length (now out)) ⌝ }
     requires { ⌜ (shape .places < 256) × (shape .width < 256) × (t < 256) × (age < shape .width) ⌝ }
     requires { ⌜ stateLength (shape .places) (t + 1) (shape .width) ≤ length (now state) ⌝ }
     ensures { λ r. ⌜ r ≤ length (now (out .exit)) ⌝ }
@@ -90,7 +95,7 @@ fn cell(out: &mut [u8], at: usize, state: &[u8], shape: Net, t: usize, age: u8) 
 
 // The lines of a transition's counts, by age.
 fn row(out: &mut [u8], at: usize, state: &[u8], shape: Net, t: usize) -> usize
-    requires { ⌜ (at ≤ length (now out)) × (10000 ≤ length (now out)) ⌝ }
+    requires { ⌜ (at ≤ length (now out)) × (leastBuffer ≤ length (now out)) ⌝ }
     requires { ⌜ (shape .places < 256) × (shape .width < 256) × (t < 256) ⌝ }
     requires { ⌜ stateLength (shape .places) (t + 1) (shape .width) ≤ length (now state) ⌝ }
     ensures { λ r. ⌜ r ≤ length (now (out .exit)) ⌝ }
@@ -106,7 +111,7 @@ fn row(out: &mut [u8], at: usize, state: &[u8], shape: Net, t: usize) -> usize
 
 // The lines of all counts above 0.
 fn rows(out: &mut [u8], at: usize, state: &[u8], shape: Net) -> usize
-    requires { ⌜ (at ≤ length (now out)) × (10000 ≤ length (now out)) ⌝ }
+    requires { ⌜ (at ≤ length (now out)) × (leastBuffer ≤ length (now out)) ⌝ }
     requires { ⌜ (shape .places < 256) × (shape .transitions < 256) × (shape .width < 256) ⌝ }
     requires { ⌜ stateLength (shape .places) (shape .transitions) (shape .width) ≤ length (now state) ⌝ }
     ensures { λ r. ⌜ r ≤ length (now (out .exit)) ⌝ }
@@ -122,7 +127,7 @@ fn rows(out: &mut [u8], at: usize, state: &[u8], shape: Net) -> usize
 
 // The lines of the state. What was gathered before them is written on the way where the buffer gets full.
 pub fn state(out: &mut [u8], at: usize, state: &[u8]) -> usize
-    requires { ⌜ (at ≤ 200) × (10000 ≤ length (now out)) ⌝ }
+    requires { ⌜ (at ≤ resultMost) × (leastBuffer ≤ length (now out)) ⌝ }
     requires { ⌜ Shown (now state) ⌝ }
     ensures { λ r. ⌜ r ≤ length (now (out .exit)) ⌝ }
 {

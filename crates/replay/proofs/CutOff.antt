@@ -27,10 +27,7 @@ use Rattle.replay.specs.Replayed.{longestNet, arrived?, netLengthIn, net
 abbrev pub enough : ℕ
 enough = longestNet + logLength eventLimit + 1
 
-long : longestNet ≡ 8455
-unfolding rowAt
-long = refl
-
+-- a number that a reader can compare with a buffer's length
 pub enough-is : enough ≡ 56461
 unfolding rowAt
 enough-is = refl
@@ -54,7 +51,7 @@ net-at-most input =
 pub long-log : (log : List ℕ) → logLength eventLimit < length log → checkLog log ≡ checked.Bad fault.LogFrame
 long-log log h = log-faulty log .1 (λ is. not-few (is .few) (is .least) (is .whole))
   where
-    not-few : (length log - 5) / 2 ≤ 24000 → 5 ≤ length log → (length log - 5) % 2 ≡ 0 → ⊥
+    not-few : (length log - 5) / 2 ≤ eventLimit → 5 ≤ length log → (length log - 5) % 2 ≡ 0 → ⊥
     not-few few least whole = omega arith
 
 -- two logs that are refused alike tell and leave the same
@@ -79,17 +76,14 @@ module _ (net state log log′ : List ℕ) (why : Fault) (bad : checkLog log ≡
 -- WHAT IS CUT OFF CHANGES NOTHING
 
 module _ (input : List ℕ) (m : ℕ) (much : enough ≤ m) (cut : m ≤ length input) where
-  big : 56461 ≤ m
-  big = rw enough-is at much
-
   same-field : word32 (take m input) 1 ≡ word32 input 1
   unfolding word word32
   same-field =
       rw (
-        getD-take m input 1 0 (omega (arith, big)),
-        getD-take m input 2 0 (omega (arith, big)),
-        getD-take m input 3 0 (omega (arith, big)),
-        getD-take m input 4 0 (omega (arith, big)),
+        getD-take m input 1 0 (omega (arith, much)),
+        getD-take m input 2 0 (omega (arith, much)),
+        getD-take m input 3 0 (omega (arith, much)),
+        getD-take m input 4 0 (omega (arith, much)),
       ) refl
 
   whole : length (take m input) ≡ m
@@ -98,35 +92,32 @@ module _ (input : List ℕ) (m : ℕ) (much : enough ≤ m) (cut : m ≤ length 
   same-test : (x : Bool) → leb (word32 input 1) longestNet ≡ x → arrived? (take m input) ≡ arrived? input
   unfolding arrived?
   same-test true e =
-      let f : word32 input 1 ≤ 8455 = rw long at (leb-true (word32 input 1) longestNet e) in
+      let f : word32 input 1 ≤ longestNet = leb-true (word32 input 1) longestNet e in
       rw (
         same-field,
         e,
         whole,
-        le-leb 5 m (omega (arith, big)),
-        le-leb 5 (length input) (omega (arith, big)),
-        le-leb (word32 input 1) m (omega (arith, f, big)),
-        le-leb (word32 input 1) (length input) (omega (arith, f, big)),
+        le-leb 5 m (omega (arith, much)),
+        le-leb 5 (length input) (omega (arith, much)),
+        le-leb (word32 input 1) m (omega (arith, f, much)),
+        le-leb (word32 input 1) (length input) (omega (arith, f, much)),
       ) refl
   same-test false e =
-      rw (same-field, e, whole, le-leb 5 m (omega (arith, big)), le-leb 5 (length input) (omega (arith, big))) refl
+      rw (same-field, e, whole, le-leb 5 m (omega (arith, much)), le-leb 5 (length input) (omega (arith, much))) refl
 
   same-length : netLengthIn (take m input) ≡ netLengthIn input
   unfolding netLengthIn
   same-length = rw (same-test _ refl, same-field) refl
 
-  n-small : netLengthIn input ≤ 8455
-  n-small = rw long at (net-at-most input)
-
   same-net : netIn (take m input) ≡ netIn input
-  same-net = rw same-length (take-take (netLengthIn input) m input (omega (arith, n-small, big)))
+  same-net = rw same-length (take-take (netLengthIn input) m input (omega (arith, net-at-most input, much)))
 
   cut-log : checkLog (logIn (take m input)) ≡ checked.Bad fault.LogFrame
   cut-log = rw same-length (long-log (drop (netLengthIn input) (take m input))
-      (omega (arith, length-drop (netLengthIn input) (take m input), whole, n-small, big)))
+      (omega (arith, length-drop (netLengthIn input) (take m input), whole, net-at-most input, much)))
 
   whole-log : checkLog (logIn input) ≡ checked.Bad fault.LogFrame
-  whole-log = long-log (logIn input) (omega (arith, length-drop (netLengthIn input) input, n-small, big))
+  whole-log = long-log (logIn input) (omega (arith, length-drop (netLengthIn input) input, net-at-most input, much))
 
   module _ (state : List ℕ) where
     pub same-told : replayed (take m input) state ≡ replayed input state

@@ -35,9 +35,13 @@ logIn input = drop (netLengthIn input) input
 
 -- WHAT IS TOLD
 
--- 1 to 10: before the first event
+-- the last of the numbers that are told before the first event: the log's
+abbrev pub lastEarly : ℕ
+lastEarly = 10
+
+-- 1 to 10
 abbrev pub early? : ℕ → Bool
-early? number = leb 1 number && leb number 10
+early? number = leb 1 number && leb number lastEarly
 
 -- how the state stands, and 0 before the first event
 unfoldable pub standingAfter : ℕ → List ℕ → List ℕ → ℕ

@@ -9,6 +9,9 @@ ghost use lib.ListN.{length};
 ghost use Rattle.engine.specs.Calls.{runLeft};
 ghost use Rattle.replay.specs.Replayed.{netLengthIn, early?, standingAfter, ranOn, replayed, replayLeft};
 
+// The last of the numbers that are told before the first event: the log's.
+pub const LAST_EARLY: u8 = 10;
+
 // The fields of menurun's first line.
 pub struct Replayed {
     pub number: u8,
@@ -44,7 +47,7 @@ pub fn is_early(number: u8) -> bool
     if number < 1 {
         return false;
     }
-    number <= 10
+    number <= LAST_EARLY
 }
 
 // Makes the initial state of the input's net at the front of the buffer, runs the input's log from there, and tells how it ended.

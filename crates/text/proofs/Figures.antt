@@ -1,4 +1,4 @@
--- How many digits a number has in decimal: one number only, and at most 20 for one of 64 bits.
+-- How many digits a number has in decimal: one number only, and at most `digitsMost` for one of 64 bits.
 -- Assumes nothing.
 use mathlib.Core.Path.{_≡_, refl, sym, ap, _∙_}
 use mathlib.Core.Bool.{Bool, true, false}
@@ -11,7 +11,7 @@ use lib.Seq.{paste}
 use lib.Dec.{ltb}
 use borrow.Author.Tests.{ltb-true, ltb-false}
 use Rattle.io.specs.Digits.{digits, Fewest}
-use Rattle.text.specs.Lines.{Spelt}
+use Rattle.text.specs.Lines.{digitsMost, Spelt}
 
 -- no number of digits is more than another that holds the number
 few : (n j k : ℕ) → 1 ≤ j → n < 10 ^ j → Fewest 10 1 n k → k ≤ j
@@ -31,16 +31,16 @@ fewest-once n j k f g =
     let b : j ≤ k = few n k j (g .0) (g .1) f in
     omega arith
 
-pub at-most-20 : (n k : ℕ) → n < 2 ^ 64 → Fewest 10 1 n k → k ≤ 20
-at-most-20 n k h f = few n 20 k (omega arith) (omega arith) f
+pub digits-at-most : (n k : ℕ) → n < 2 ^ 64 → Fewest 10 1 n k → k ≤ digitsMost
+digits-at-most n k h f = few n digitsMost k (omega arith) (omega arith) f
 
 -- the digits as `io` makes them, put into a buffer
 pub spelt : (out : List ℕ) (at n k : ℕ) (after made : List ℕ) (end : ℕ) → n < 2 ^ 64
     → k ≡ length (take k made) → Fewest 10 1 n k → take k made ≡ digits 10 k n
     → end ≡ at + length (take k made) → after ≡ paste out at (take k made) (length (take k made))
-    → (end ≤ at + 20) × Spelt out at n after end
+    → (end ≤ at + digitsMost) × Spelt out at n after end
 spelt out at n k after made end h counted f are ends stands = (
-  omega (arith, at-most-20 n k h f),
+  omega (arith, digits-at-most n k h f),
   record {
     places = k;
     fewest = f;

@@ -8,6 +8,18 @@ use lib.Seq.{paste}
 use Rattle.io.specs.Digits.{digits, Fewest}
 use Rattle.io.specs.Digits.{glyph as digitGlyph}
 
+-- a number of 64 bits has at most so many digits in decimal
+abbrev pub digitsMost : ℕ
+digitsMost = 20
+
+-- a field is a blank and a number
+abbrev pub fieldMost : ℕ
+fieldMost = 1 + digitsMost
+
+-- the byte between two fields
+abbrev pub space : ℕ
+space = 32
+
 -- the hex digit of a number below 16, in lower case
 abbrev pub glyph : ℕ → ℕ
 glyph n = digitGlyph n

@@ -4,7 +4,13 @@ ghost use mathlib.Core.Path.{_≡_};
 ghost use Prim.Native.Nat.{_+_, _*_, _<_, _≤_};
 ghost use lib.ListN.{length, set};
 ghost use lib.Seq.{paste};
-ghost use Rattle.text.specs.Lines.{Spelt, hexed, glyph};
+ghost use Rattle.text.specs.Lines.{digitsMost, fieldMost, space, Spelt, hexed, glyph};
+
+// A number of 64 bits has at most so many digits in decimal.
+pub const DIGITS_MOST: usize = 20;
+
+// A field is a blank and a number.
+pub const FIELD_MOST: usize = 1 + DIGITS_MOST;
 
 // One byte.
 pub fn put_byte(out: &mut [u8], at: usize, byte: u8) -> usize
@@ -30,22 +36,22 @@ pub fn put_bytes(out: &mut [u8], at: usize, bytes: &[u8]) -> usize
     at + i
 }
 
-// A number in decimal: at most 20 digits.
+// A number in decimal.
 pub fn put_decimal(out: &mut [u8], at: usize, n: u64) -> usize
-    requires { ⌜ at + 20 ≤ length (now out) ⌝ }
-    ensures { λ r. ⌜ r ≤ at + 20 ⌝ }
+    requires { ⌜ at + digitsMost ≤ length (now out) ⌝ }
+    ensures { λ r. ⌜ r ≤ at + digitsMost ⌝ }
     ensures { λ r. ⌜ Spelt (now (out .entry)) at n (now (out .exit)) r ⌝ }
 {
-    let mut digits = [0u8; 20];
+    let mut digits = [0u8; DIGITS_MOST];
     let places = io::decimal(n, &mut digits);
     put_bytes(out, at, &digits[..places])
 }
 
 // A blank, and a number in decimal.
 pub fn put_field(out: &mut [u8], at: usize, n: u64) -> usize
-    requires { ⌜ at + 21 ≤ length (now out) ⌝ }
-    ensures { λ r. ⌜ r ≤ at + 21 ⌝ }
-    ensures { λ r. ⌜ Spelt (set (now (out .entry)) at 32) (at + 1) n (now (out .exit)) r ⌝ }
+    requires { ⌜ at + fieldMost ≤ length (now out) ⌝ }
+    ensures { λ r. ⌜ r ≤ at + fieldMost ⌝ }
+    ensures { λ r. ⌜ Spelt (set (now (out .entry)) at space) (at + 1) n (now (out .exit)) r ⌝ }
 {
     let from = put_byte(out, at, b' ');
     put_decimal(out, from, n)

@@ -4,13 +4,15 @@ use mathlib.Core.Path.{_≡_, refl}
 use Prim.Native.Nat.{_+_, _*_, _-_, _≤_}
 use native.Mathlib.Omega.{arith}
 use lib.ListN.{length}
+use Rattle.text.specs.Lines.{fieldMost}
+use Rattle.menurun.specs.Sizes.{resultMost, leastBuffer}
 use borrow.Author.Needs.{needs}
 use Rattle.menurun.proofs.show.marks.Statement.{statement}
 use Rattle.menurun.proofs.show.marks.Tie as tie
 
 abbrev Inv-loop : tie.InvT-loop
 Inv-loop out₀ at state places end₀ p₀ out end p =
-    (p ≤ places) × (end ≤ 205 + 21 * p) × (10000 ≤ length out) × (length out ≡ length out₀)
+    (p ≤ places) × (end ≤ resultMost + 5 + fieldMost * p) × (leastBuffer ≤ length out) × (length out ≡ length out₀)
 
 abbrev μ-loop : tie.MeasureT-loop
 μ-loop out₀ at state places end₀ p₀ out end p = places - p

@@ -1,7 +1,7 @@
 -- `line::put_decimal` meets its contract: the digits as `io` makes them, put where they belong.
 -- Assumes nothing.
 use native.Mathlib.Omega.{arith}
-use Rattle.text.proofs.Figures.{at-most-20, spelt}
+use Rattle.text.proofs.Figures.{digits-at-most, spelt}
 use borrow.Author.Needs.{needs}
 use Rattle.text.proofs.line.put_decimal.Statement.{statement}
 use Rattle.text.proofs.line.put_decimal.Tie as tie
@@ -19,7 +19,7 @@ put-bytes-requires : tie.Need-put-bytes-requires
 put-bytes-requires c κs =
     let d = c .before .before .decimal in
     let e = c .before .before .before .before .before in
-    omega (arith, d .ensures .0 .1, at-most-20 (e .args .n) (d .result) (e .fits .n .fits) (d .ensures .1 .0))
+    omega (arith, d .ensures .0 .1, digits-at-most (e .args .n) (d .result) (e .fits .n .fits) (d .ensures .1 .0))
 
 same-length : tie.Need-same-length
 same-length c = search needs
