@@ -25,7 +25,7 @@ use Rattle.engine.specs.declared.answers.DegreeTold.{DegreeTold}
 use Rattle.engine.specs.declared.answers.OwedTold.{OwedTold}
 use Rattle.engine.specs.declared.examine.Examined.{Examined}
 use Rattle.engine.specs.declared.examine.Examined.the-variants as examined
-use Rattle.engine.specs.Examined.{ifGood, examineNet, examineState, examineLog, by}
+use Rattle.engine.specs.Examined.{ifGood, examineNet, examineState, examineLog, ifFit}
 use Rattle.engine.specs.Answers.{verdict, accepted, verdictOf, unfit, noDegree, noReport}
 use Rattle.engine.specs.Calls.{netTold, stateTold, initialTold, initialLeft, eventTold, eventLeft, backTold, backLeft}
 use Rattle.engine.specs.Calls.{degreeTold, owedTold, runTold, runLeft, walkTold, walkLeft, stepTold}
@@ -85,7 +85,7 @@ fault-number fault.LogFrame e = absurd (omega arith)
 -- where a call tells 0 its examination found no fault
 zero-passes : {A : Type 0} (e : Examined) (go : A) (stop : Fault → A) (number : A → ℕ)
     → ((why : Fault) → number (stop why) ≡ numberOfFault why)
-    → number (by e go stop) ≡ 0 → Passes e
+    → number (ifFit e go stop) ≡ 0 → Passes e
 zero-passes (examined.Fit shape) go stop number is z = (shape, refl)
 zero-passes (examined.Unfit why) go stop number is z = fault-number why (sym (is why) ∙ z)
 

@@ -94,8 +94,8 @@ ticks-append [] fs = omega arith
 ticks-append (e ∷ es) fs = omega (arith, ticks-append es fs)
 
 -- what is told of events behind others that were done
-abbrev pub behind : List Event → Account → Account
-behind es r = record {
+abbrev pub toldBehind : List Event → Account → Account
+toldBehind es r = record {
   number = r .number;
   index = length es + r .index;
   done = length es + r .done;
@@ -103,17 +103,17 @@ behind es r = record {
   state = r .state;
 }
 
-behind-closes : (N : Net) (es fs : List Event) (r : Account) → RunCloses N fs r → RunCloses N (es ++ fs) (behind es r)
+behind-closes : (N : Net) (es fs : List Event) (r : Account) → RunCloses N fs r → RunCloses N (es ++ fs) (toldBehind es r)
 behind-closes N es fs r (RunCloses.accepted n d) = RunCloses.accepted n (omega (arith, length-append es fs))
 behind-closes N es fs r (RunCloses.stopped why n l f) =
     RunCloses.stopped why n (omega (arith, length-append es fs)) (rw (getD-append-add es fs (r .done) event.Malformed) f)
 
 -- a run of events behind others that lead on is a run from where they lead
-pub run-append : (N : Net) (S S₁ : State) (es fs : List Event) → Leads N S es S₁ → run N S (es ++ fs) ≡ behind es (run N S₁ fs)
+pub run-append : (N : Net) (S S₁ : State) (es fs : List Event) → Leads N S es S₁ → run N S (es ++ fs) ≡ toldBehind es (run N S₁ fs)
 run-append N S S₁ es fs m =
     let r = run N S₁ fs in
     let h = run-ran N S₁ fs in
-    sym (ran-only N S (es ++ fs) (behind es r) (record {
+    sym (ran-only N S (es ++ fs) (toldBehind es r) (record {
       led = rw (take-append-add es fs (r .done)) (leads-append m (h .led));
       ticks-are = rw (take-append-add es fs (r .done)) (omega (arith, h .ticks-are, ticks-append es (take (r .done) fs)));
       index-is = omega (arith, h .index-is);

@@ -20,7 +20,7 @@ use Rattle.forms.proofs.States.{state-exact, state-faulty}
 use Rattle.forms.proofs.Logs.{log-exact, log-faulty}
 use Rattle.engine.specs.declared.examine.Examined.{Examined}
 use Rattle.engine.specs.declared.examine.Examined.the-variants as examined
-use Rattle.engine.specs.Examined.{ifGood, andThen, examineNet, examineState, examineLog}
+use Rattle.engine.specs.Examined.{ifGood, thenCheck, examineNet, examineState, examineLog}
 use Rattle.engine.specs.Demands.{Passes}
 use Rattle.engine.specs.Faults.{StateUnfit, LogUnfit, Examines}
 
@@ -31,17 +31,17 @@ data Where (before : Examined) (check : Checked) (why : Fault) : Type 0 where
   earlier : before ≡ examined.Unfit why → Where before check why
   here : (s : Shape) → before ≡ examined.Fit s → check ≡ checked.Bad why → Where before check why
 
-found : (before : Examined) (check : Checked) (why : Fault) → andThen before check ≡ examined.Unfit why → Where before check why
+found : (before : Examined) (check : Checked) (why : Fault) → thenCheck before check ≡ examined.Unfit why → Where before check why
 found (examined.Fit s) checked.Good why e = let z : _≡_ {A = ℕ} 0 1 = cc in absurd (omega arith)
 found (examined.Fit s) (checked.Bad other) why e = let z : other ≡ why = cc in Where.here s refl (ap checked.Bad z)
 found (examined.Unfit other) check why e = Where.earlier e
 
-passed : (before : Examined) (check : Checked) → Passes (andThen before check) → Passes before × (check ≡ checked.Good)
+passed : (before : Examined) (check : Checked) → Passes (thenCheck before check) → Passes before × (check ≡ checked.Good)
 passed (examined.Fit s) checked.Good p = (p, refl)
 passed (examined.Fit s) (checked.Bad why) (_, e) = let z : _≡_ {A = ℕ} 0 1 = cc in absurd (omega arith)
 passed (examined.Unfit why) check (_, e) = let z : _≡_ {A = ℕ} 0 1 = cc in absurd (omega arith)
 
-passes : (before : Examined) (check : Checked) → Passes before → check ≡ checked.Good → Passes (andThen before check)
+passes : (before : Examined) (check : Checked) → Passes before → check ≡ checked.Good → Passes (thenCheck before check)
 passes before check (s, e) g = (s, rw (e, g))
 
 -- a log has one fault

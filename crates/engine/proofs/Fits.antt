@@ -19,7 +19,7 @@ use Rattle.forms.proofs.Logs.{log-exact}
 use Rattle.forms.proofs.Frames.{net-frame, frame}
 use Rattle.engine.specs.declared.examine.Examined.{Examined}
 use Rattle.engine.specs.declared.examine.Examined.the-variants as examined
-use Rattle.engine.specs.Examined.{ifGood, andThen, examineNet, examineState, examineLog}
+use Rattle.engine.specs.Examined.{ifGood, thenCheck, examineNet, examineState, examineLog}
 
 abbrev shape : Net → Shape
 shape N = shapeOf (N .places) (N .transitions) (width N)
@@ -31,7 +31,7 @@ good-then : (check : Checked) (rest : Examined) {s : Shape} → ifGood check res
 good-then checked.Good rest e = (refl, e)
 good-then (checked.Bad why) rest e = let z : _≡_ {A = ℕ} 0 1 = cc in absurd (omega arith)
 
-fit-then : (before : Examined) (check : Checked) {s : Shape} → andThen before check ≡ examined.Fit s
+fit-then : (before : Examined) (check : Checked) {s : Shape} → thenCheck before check ≡ examined.Fit s
     → (before ≡ examined.Fit s) × (check ≡ checked.Good)
 fit-then (examined.Fit s) check e = let g = good-then check (examined.Fit s) e in (g .1, g .0)
 fit-then (examined.Unfit why) check e = let z : _≡_ {A = ℕ} 0 1 = cc in absurd (omega arith)
@@ -70,11 +70,11 @@ net-bad net g = rw g
 
 -- one more check, behind what was found so far
 module _ (before : Examined) (check : Checked) where
-  pub still-unfit : {why : Fault} → before ≡ examined.Unfit why → before ≡ andThen before check
+  pub still-unfit : {why : Fault} → before ≡ examined.Unfit why → before ≡ thenCheck before check
   still-unfit e = rw e
 
-  pub still-fit : {s : Shape} → before ≡ examined.Fit s → check ≡ checked.Good → examined.Fit s ≡ andThen before check
+  pub still-fit : {s : Shape} → before ≡ examined.Fit s → check ≡ checked.Good → examined.Fit s ≡ thenCheck before check
   still-fit e g = rw (e, g)
 
-  pub now-unfit : {s : Shape} {why : Fault} → before ≡ examined.Fit s → check ≡ checked.Bad why → examined.Unfit why ≡ andThen before check
+  pub now-unfit : {s : Shape} {why : Fault} → before ≡ examined.Fit s → check ≡ checked.Bad why → examined.Unfit why ≡ thenCheck before check
   now-unfit e g = rw (e, g)

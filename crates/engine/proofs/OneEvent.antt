@@ -24,7 +24,7 @@ use Rattle.moves.proofs.Undone.{apply-framed, back-framed, undone, redone}
 use Rattle.engine.specs.declared.answers.Verdict.{Verdict}
 use Rattle.engine.specs.Answers.{answered}
 use Rattle.engine.specs.Calls.{eventTold, eventLeft, backTold, backLeft}
-use Rattle.engine.specs.Demands.{Leaves, EventDone}
+use Rattle.engine.specs.Demands.{LeavesState, EventDone}
 use Rattle.engine.specs.Demands.{EventBack}
 use Rattle.engine.proofs.Courses.{is-done, on-done, is-refused, on-refused, on-none}
 use Rattle.engine.proofs.PastChecks.{fits-state, event-told, event-left, back-told, back-left}
@@ -39,10 +39,10 @@ module _ (net : List ℕ) (shape : Shape) (b : List ℕ) (f : Framed net shape b
   pub lawful : Lawful (netOf net) (stored net b)
   lawful = state-lawful (netOf net) b small (f .is-state)
 
-  pub leaves : (b′ : List ℕ) (S′ : State) → Lawful (netOf net) S′ → b′ ≡ written (netOf net) S′ b → Leaves net b b′ S′
+  pub leaves : (b′ : List ℕ) (S′ : State) → Lawful (netOf net) S′ → b′ ≡ written (netOf net) S′ b → LeavesState net b b′ S′
   leaves b′ S′ s′ e =
       let room = f .is-state .head .room in
-      subst (λ (x : List ℕ). Leaves net b x S′) (sym e) (record {
+      subst (λ (x : List ℕ). LeavesState net b x S′) (sym e) (record {
         whole = refl;
         reads = read-written N S′ b room (s′ .shaped);
         passes = fits-state net shape (written N S′ b) (written-framed net shape b S′ f s′) ∙ sym (fits-state net shape b f);

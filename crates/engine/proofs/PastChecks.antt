@@ -22,7 +22,7 @@ use Rattle.engine.specs.declared.examine.Examined.the-variants as examin
 use Rattle.engine.specs.Examined.{examineNet, examineState, examineLog}
 use Rattle.engine.specs.Answers.{answered, degreeOf, owedOf}
 use Rattle.engine.specs.Calls.{eventTold, eventLeft, backTold, backLeft}
-use Rattle.engine.specs.Calls.{degreeTold, owedTold, eventsOf, runTold, runLeft, walkTold, walkLeft}
+use Rattle.engine.specs.Calls.{degreeTold, owedTold, eventsPart, runTold, runLeft, walkTold, walkLeft}
 use Rattle.engine.proofs.Fits.{net-good, still-fit}
 
 -- BYTES IN THEIR FRAME ARE FOUND FIT
@@ -68,18 +68,18 @@ module _ (net : List ℕ) (shape : Shape) (b : List ℕ) (f : Framed net shape b
   owed-told = rw (fits-state net shape b f)
 
   module _ (log : List ℕ) (l : IsLog log) where
-    pub run-told : runTold net b log ≡ toldOf (ran net b (eventsOf log))
+    pub run-told : runTold net b log ≡ toldOf (ran net b (eventsPart log))
     unfolding runTold
     run-told = rw (fits-log net shape b f log l)
 
-    pub run-left : runLeft net b log ≡ written (netOf net) (ran net b (eventsOf log) .state) b
+    pub run-left : runLeft net b log ≡ written (netOf net) (ran net b (eventsPart log) .state) b
     unfolding runLeft
     run-left = rw (fits-log net shape b f log l)
 
-    pub walk-told : (n : ℕ) → walkTold net b log n ≡ toldOf (walked net b (eventsOf log) n)
+    pub walk-told : (n : ℕ) → walkTold net b log n ≡ toldOf (walked net b (eventsPart log) n)
     unfolding walkTold
     walk-told n = rw (fits-log net shape b f log l)
 
-    pub walk-left : (n : ℕ) → walkLeft net b log n ≡ written (netOf net) (walked net b (eventsOf log) n .state) b
+    pub walk-left : (n : ℕ) → walkLeft net b log n ≡ written (netOf net) (walked net b (eventsPart log) n .state) b
     unfolding walkLeft
     walk-left n = rw (fits-log net shape b f log l)

@@ -24,7 +24,7 @@ use Rattle.engine.specs.declared.answers.Verdict.{Verdict}
 use Rattle.engine.specs.declared.answers.DegreeTold.{DegreeTold}
 use Rattle.engine.specs.declared.answers.OwedTold.{OwedTold}
 use Rattle.engine.specs.declared.answers.StepTold.{StepTold}
-use Rattle.engine.specs.Examined.{examineNet, examineState, examineLog, by}
+use Rattle.engine.specs.Examined.{examineNet, examineState, examineLog, ifFit}
 use Rattle.engine.specs.Answers.{accepted, verdictOf, unfit, answered, degreeOf, noDegree, owedOf, noReport, tellsStep, stepOf}
 
 -- CHECKS, AND THE INITIAL STATE
@@ -33,55 +33,55 @@ unfoldable pub netTold : List ℕ → Verdict
 netTold net = verdictOf (checkNet net)
 
 unfoldable pub stateTold : List ℕ → List ℕ → Verdict
-stateTold net state = by (examineState net state) accepted unfit
+stateTold net state = ifFit (examineState net state) accepted unfit
 
 unfoldable pub initialTold : List ℕ → List ℕ → Verdict
-initialTold net state = by (examineNet net) (verdictOf (checkRoom (netOf net) state)) unfit
+initialTold net state = ifFit (examineNet net) (verdictOf (checkRoom (netOf net) state)) unfit
 
 unfoldable pub initialLeft : List ℕ → List ℕ → List ℕ
-initialLeft net state = by (examineNet net) (afterInitial (netOf net) state) (λ why. state)
+initialLeft net state = ifFit (examineNet net) (afterInitial (netOf net) state) (λ why. state)
 
 -- ONE EVENT, DONE AND TAKEN BACK
 
 unfoldable pub eventTold : List ℕ → List ℕ → ℕ → ℕ → Verdict
-eventTold net state first second = by (examineState net state) (answered (answerOf (applied net state (eventOf first second)))) unfit
+eventTold net state first second = ifFit (examineState net state) (answered (answerOf (applied net state (eventOf first second)))) unfit
 
 unfoldable pub eventLeft : List ℕ → List ℕ → ℕ → ℕ → List ℕ
 eventLeft net state first second =
-    by (examineState net state) (after (netOf net) (applied net state (eventOf first second)) state) (λ why. state)
+    ifFit (examineState net state) (after (netOf net) (applied net state (eventOf first second)) state) (λ why. state)
 
 unfoldable pub backTold : List ℕ → List ℕ → ℕ → ℕ → Verdict
-backTold net state first second = by (examineState net state) (answered (answerOf (takenBack net state (eventOf first second)))) unfit
+backTold net state first second = ifFit (examineState net state) (answered (answerOf (takenBack net state (eventOf first second)))) unfit
 
 unfoldable pub backLeft : List ℕ → List ℕ → ℕ → ℕ → List ℕ
 backLeft net state first second =
-    by (examineState net state) (after (netOf net) (takenBack net state (eventOf first second)) state) (λ why. state)
+    ifFit (examineState net state) (after (netOf net) (takenBack net state (eventOf first second)) state) (λ why. state)
 
 -- WHAT A STATE OWES
 
 unfoldable pub degreeTold : List ℕ → List ℕ → ℕ → DegreeTold
-degreeTold net state t = by (examineState net state) (degreeOf (netOf net) (stored net state) t) noDegree
+degreeTold net state t = ifFit (examineState net state) (degreeOf (netOf net) (stored net state) t) noDegree
 
 unfoldable pub owedTold : List ℕ → List ℕ → OwedTold
-owedTold net state = by (examineState net state) (owedOf (reported (netOf net) (stored net state))) noReport
+owedTold net state = ifFit (examineState net state) (owedOf (reported (netOf net) (stored net state))) noReport
 
 -- A LOG, RUN AND WALKED BACK
 
 -- the events follow the fifth byte of the log
-abbrev pub eventsOf : List ℕ → List ℕ
-eventsOf log = drop (eventAt 0) log
+abbrev pub eventsPart : List ℕ → List ℕ
+eventsPart log = drop (eventAt 0) log
 
 unfoldable pub runTold : List ℕ → List ℕ → List ℕ → Told
-runTold net state log = by (examineLog net state log) (toldOf (ran net state (eventsOf log))) toldFault
+runTold net state log = ifFit (examineLog net state log) (toldOf (ran net state (eventsPart log))) toldFault
 
 unfoldable pub runLeft : List ℕ → List ℕ → List ℕ → List ℕ
-runLeft net state log = by (examineLog net state log) (left net (ran net state (eventsOf log)) state) (λ why. state)
+runLeft net state log = ifFit (examineLog net state log) (left net (ran net state (eventsPart log)) state) (λ why. state)
 
 unfoldable pub walkTold : List ℕ → List ℕ → List ℕ → ℕ → Told
-walkTold net state log n = by (examineLog net state log) (toldOf (walked net state (eventsOf log) n)) toldFault
+walkTold net state log n = ifFit (examineLog net state log) (toldOf (walked net state (eventsPart log) n)) toldFault
 
 unfoldable pub walkLeft : List ℕ → List ℕ → List ℕ → ℕ → List ℕ
-walkLeft net state log n = by (examineLog net state log) (left net (walked net state (eventsOf log) n) state) (λ why. state)
+walkLeft net state log n = ifFit (examineLog net state log) (left net (walked net state (eventsPart log) n) state) (λ why. state)
 
 -- A STEP OF A LOG
 
@@ -91,7 +91,7 @@ stepBy checked.Good told = told
 stepBy (checked.Bad why) told = tellsStep (numberOfFault why) 0 0
 
 unfoldable pub stepTold : List ℕ → ℕ → StepTold
-stepTold log k = stepBy (checkLog log) (stepOf (spanOf (eventsOf log) k))
+stepTold log k = stepBy (checkLog log) (stepOf (spanOf (eventsPart log) k))
 
 -- part is that part of the log: its bytes, in the log's own block, and so many bytes behind its front
 pub record PartOf (log part : RefT (List ℕ)) (told : StepTold) : Type 0 where

@@ -77,8 +77,8 @@ abbrev log : ℕ → List ℕ → List ℕ
 log long events = 0x01 ∷ 0x00 ∷ 0x00 ∷ 0x00 ∷ long ∷ events
 
 -- what a longer buffer holds behind the state
-abbrev behind : List ℕ
-behind = 0xC0 ∷ 0xFF ∷ 0xEE ∷ []
+abbrev bytesBehind : List ℕ
+bytesBehind = 0xC0 ∷ 0xFF ∷ 0xEE ∷ []
 
 -- THE TABLE
 
@@ -88,8 +88,8 @@ cases =
     runs rowState rowLog (saysRun 0 5 5 1) filled 4
     ∷ runs rowState (log 0x07 (0x00 ∷ 0x00 ∷ [])) (saysRun 18 0 0 0) rowState 1
     -- the buffer is longer than the state
-    ∷ runs (rowState ++ behind) (log 0x0D (0x01 ∷ 0x00 ∷ 0x00 ∷ 0x00 ∷ 0x00 ∷ 0x00 ∷ 0x00 ∷ 0x00 ∷ [])) (saysRun 0 4 4 3)
-    (rowStateWith noMarks atAge3 noCounts ++ behind) 2
+    ∷ runs (rowState ++ bytesBehind) (log 0x0D (0x01 ∷ 0x00 ∷ 0x00 ∷ 0x00 ∷ 0x00 ∷ 0x00 ∷ 0x00 ∷ 0x00 ∷ [])) (saysRun 0 4 4 3)
+    (rowStateWith noMarks atAge3 noCounts ++ bytesBehind) 2
     ∷ runs rowState (log 0x0F (0x01 ∷ 0x00 ∷ 0x00 ∷ 0x00 ∷ 0x00 ∷ 0x00 ∷ 0x00 ∷ 0x00 ∷ 0x00 ∷ 0x00 ∷ [])) (saysRun 19 4 4 3)
     (rowStateWith noMarks atAge3 noCounts) 2
     ∷ runs rowState (log 0x09 (0x01 ∷ 0x00 ∷ 0x41 ∷ 0x00 ∷ [])) (saysRun 15 1 1 0) (rowStateWith noMarks atAge0 noCounts) 3
@@ -119,8 +119,8 @@ abbrev overdue : List ℕ
 overdue = rowStateWith noMarks noCounts atAge1
 
 -- place 0 holds 65,535, and transition 0 has one count at age 0
-abbrev full : List ℕ
-full = rowStateWith (marks 0xFF 0xFF 0x00 0x00 0x00 0x00) atAge0 noCounts
+abbrev fullPlace0 : List ℕ
+fullPlace0 = rowStateWith (marks 0xFF 0xFF 0x00 0x00 0x00 0x00) atAge0 noCounts
 
 -- a net whose transition 1 has lfd 64, and a log of version 2
 abbrev longNet : List ℕ
@@ -148,7 +148,7 @@ pub record Further : Type 0 where
   pub empty-last : stepTold cutLog 2 ≡ saysStep 0 0 11 0
   pub step-of-no-log : stepTold newLog 0 ≡ saysStep 10 0 0 0
   -- start 0 taken back with place 0 at 65,535 and one count at age 0: 21
-  pub full-back : (backTold rowNet full 0x01 0x00 ≡ says 21 0) × (backLeft rowNet full 0x01 0x00 ≡ full)
+  pub full-back : (backTold rowNet fullPlace0 0x01 0x00 ≡ says 21 0) × (backLeft rowNet fullPlace0 0x01 0x00 ≡ fullPlace0)
   -- step 0 of the log is 01 00; step 1 is 41 01 02 00 42 00; step 2 is refused by 23
   pub step-0 : (stepTold rowLog 0 ≡ saysStep 0 0 5 2) × (partOf (stepTold rowLog 0) ≡ 0x01 ∷ 0x00 ∷ [])
   pub step-1 : (stepTold rowLog 1 ≡ saysStep 0 0 9 6) × (partOf (stepTold rowLog 1) ≡ 0x41 ∷ 0x01 ∷ 0x02 ∷ 0x00 ∷ 0x42 ∷ 0x00 ∷ [])
@@ -159,8 +159,8 @@ pub record Further : Type 0 where
   -- a log of 5 bytes, length field 5: accepted, no events
   pub no-events : (runTold rowNet rowState (log 0x05 []) ≡ saysRun 0 0 0 0) × (runLeft rowNet rowState (log 0x05 []) ≡ rowState)
   -- the initial state, over whatever the buffer held; and in a buffer one byte short
-  pub initial : (initialTold rowNet (replicate 30 0xAA ++ behind) ≡ says 0 0)
-      × (initialLeft rowNet (replicate 30 0xAA ++ behind) ≡ rowState ++ behind)
+  pub initial : (initialTold rowNet (replicate 30 0xAA ++ bytesBehind) ≡ says 0 0)
+      × (initialLeft rowNet (replicate 30 0xAA ++ bytesBehind) ≡ rowState ++ bytesBehind)
   pub no-room : (initialTold rowNet (replicate 29 0xAA) ≡ says 7 0) × (initialLeft rowNet (replicate 29 0xAA) ≡ replicate 29 0xAA)
   -- K1's log walked back whole, over its last two events, and over more than it has
   pub whole-back : (walkTold rowNet filled rowLog 5 ≡ saysRun 0 0 5 1) × (walkLeft rowNet filled rowLog 5 ≡ rowState)

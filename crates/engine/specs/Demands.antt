@@ -47,7 +47,7 @@ account r S = record { number = r .number; index = r .index; done = r .done; tic
 
 -- of the buffer b the call leaves b′, which holds S at its front. It is b with S written over the state: S is read from it, it passes
 -- the check of states as b does, and the head and all bytes behind the state are b's
-pub record Leaves (net b b′ : List ℕ) (S : State) : Type 0 where
+pub record LeavesState (net b b′ : List ℕ) (S : State) : Type 0 where
   pub whole : b′ ≡ written (netOf net) S b
   pub reads : stored net b′ ≡ S
   pub passes : examineState net b′ ≡ examineState net b
@@ -65,7 +65,7 @@ pub record EventDone (net b : List ℕ) (first second : ℕ) : Type 0 where
       ↔ ((S′ : State) × Moves (netOf net) (stored net b) (eventOf first second) S′)
   -- and the state that the rules give is left
   pub done : (S′ : State) → Moves (netOf net) (stored net b) (eventOf first second) S′
-      → (eventTold net b first second ≡ says 0 0) × Leaves net b (eventLeft net b first second) S′
+      → (eventTold net b first second ≡ says 0 0) × LeavesState net b (eventLeft net b first second) S′
   -- each refusal is told exactly when document 01 says
   pub refused : (why : Refusal) → (eventTold net b first second ≡ says (numberOfRefusal why) 0)
       ↔ Refuses (netOf net) (stored net b) (eventOf first second) why
@@ -79,10 +79,10 @@ pub record LogRun (net b log : List ℕ) : Type 0 where
   -- and then all its events and ticks are told, and the state that they lead to is left
   pub done : (S′ : State) → Leads (netOf net) (stored net b) (logEvents log) S′
       → (runTold net b log ≡ saysRun 0 (length (logEvents log)) (length (logEvents log)) (ticksIn (logEvents log)))
-      × Leaves net b (runLeft net b log) S′
+      × LeavesState net b (runLeft net b log) S′
   -- what is told of any log, accepted or refused, is exact, and the state just before the refused event is left
   pub told : (S′ : State) × Ran (netOf net) (stored net b) (logEvents log) (account (runTold net b log) S′)
-      × Leaves net b (runLeft net b log) S′
+      × LeavesState net b (runLeft net b log) S′
 
 -- fed in two portions, the first accepted, a log tells and leaves what it does when it is fed whole
 pub record InPortions (net b one other whole : List ℕ) : Type 0 where
@@ -128,7 +128,7 @@ pub record EventBack (net b : List ℕ) (first second : ℕ) : Type 0 where
   pub permitted : (backTold net b first second .number ≡ 0) ↔ SomeLeads (netOf net) (stored net b) (eventOf first second)
   -- and that state is left, so there is never a second one
   pub done : (S : State) → Lawful (netOf net) S → Moves (netOf net) S (eventOf first second) (stored net b)
-      → (backTold net b first second ≡ says 0 0) × Leaves net b (backLeft net b first second) S
+      → (backTold net b first second ≡ says 0 0) × LeavesState net b (backLeft net b first second) S
   -- each refusal is told exactly when document 01 says
   pub refused : (why : Refusal) → (backTold net b first second ≡ says (numberOfRefusal why) 0)
       ↔ Barred (netOf net) (stored net b) (eventOf first second) why
@@ -152,10 +152,10 @@ pub record LogBack (net b log : List ℕ) (n : ℕ) : Type 0 where
   pub done : n ≤ length (logEvents log) → (S : State) → Lawful (netOf net) S
       → Leads (netOf net) S (lastOf n (logEvents log)) (stored net b)
       → (walkTold net b log n ≡ saysRun 0 (length (logEvents log) - n) n (ticksIn (lastOf n (logEvents log))))
-      × Leaves net b (walkLeft net b log n) S
+      × LeavesState net b (walkLeft net b log n) S
   -- what is told of any walk, accepted or refused, is exact, and the state where it stops is left
   pub told : (S : State) × Walked (netOf net) (stored net b) (logEvents log) n (account (walkTold net b log n) S)
-      × Leaves net b (walkLeft net b log n) S
+      × LeavesState net b (walkLeft net b log n) S
   -- 22: more events are asked than the log has, and no byte changes
   pub too-many : length (logEvents log) < n → (walkTold net b log n ≡ saysRun 22 0 0 0) × (walkLeft net b log n ≡ b)
 

@@ -20,9 +20,9 @@ ifGood checked.Good rest = rest
 ifGood (checked.Bad why) rest = examined.Unfit why
 
 -- where the examination so far found no fault, one more check
-abbrev pub andThen : Examined → Checked → Examined
-andThen (examined.Fit shape) check = ifGood check (examined.Fit shape)
-andThen (examined.Unfit why) check = examined.Unfit why
+abbrev pub thenCheck : Examined → Checked → Examined
+thenCheck (examined.Fit shape) check = ifGood check (examined.Fit shape)
+thenCheck (examined.Unfit why) check = examined.Unfit why
 
 -- 1 to 6
 unfoldable pub examineNet : List ℕ → Examined
@@ -31,13 +31,13 @@ examineNet net =
 
 -- and then 8 and 9
 unfoldable pub examineState : List ℕ → List ℕ → Examined
-examineState net state = andThen (examineNet net) (checkState (netOf net) state)
+examineState net state = thenCheck (examineNet net) (checkState (netOf net) state)
 
 -- and then 10
 unfoldable pub examineLog : List ℕ → List ℕ → List ℕ → Examined
-examineLog net state log = andThen (examineState net state) (checkLog log)
+examineLog net state log = thenCheck (examineState net state) (checkLog log)
 
 -- what follows from an examination, by its two cases
-abbrev pub by : {A : Type 0} → Examined → A → (Fault → A) → A
-by (examined.Fit shape) go stop = go
-by (examined.Unfit why) go stop = stop why
+abbrev pub ifFit : {A : Type 0} → Examined → A → (Fault → A) → A
+ifFit (examined.Fit shape) go stop = go
+ifFit (examined.Unfit why) go stop = stop why

@@ -6,20 +6,17 @@ use mathlib.Core.List.{List, [], _∷_}
 use Prim.Native.Nat.{ℕ}
 use lib.ListN.{set}
 use Rattle.forms.specs.Cases.{rowNet, rowState, rowLog}
+use Rattle.owed.specs.Edges.{spent}
 use Rattle.engine.specs.Calls.{netTold, stateTold, degreeTold, owedTold, runTold, runLeft, walkTold, stepTold}
 use Rattle.menu.specs.Fields.{verdictFields, degreeFields, owedFields, toldFields, stepFields}
 
--- no token waits: byte 9 is the low byte of place 0
-abbrev spent : List ℕ
-spent = set rowState 9 0
-
--- what K1 leaves: a token in place 2
+-- what K1 leaves: a token in place 2, and none elsewhere
 abbrev filled : List ℕ
 filled = set spent 13 1
 
 -- a token in place 1 enables transition 1, and transition 0 has a count at age 3, its lfd
-abbrev loaded : List ℕ
-loaded = set (set spent 11 1) 21 1
+abbrev bothOwed : List ℕ
+bothOwed = set (set spent 11 1) 21 1
 
 -- transition 1 has a count at age 0, its lfd; and at age 1, above it
 abbrev filling : List ℕ
@@ -39,7 +36,7 @@ pub record Edges : Type 0 where
   pub degree : degreeFields (degreeTold rowNet rich 0) ≡ 0 ∷ 0 ∷ 258 ∷ []
   pub no-degree : degreeFields (degreeTold rowNet overdue 0) ≡ 9 ∷ 1 ∷ 0 ∷ []
   -- both words, how many are set in both, the lowest of both, the standing
-  pub start-owed : owedFields (owedTold rowNet loaded) ≡ 0 ∷ 0 ∷ 2 ∷ 1 ∷ 1 ∷ 1 ∷ 1 ∷ 0 ∷ 1 ∷ []
+  pub start-owed : owedFields (owedTold rowNet bothOwed) ≡ 0 ∷ 0 ∷ 2 ∷ 1 ∷ 1 ∷ 1 ∷ 1 ∷ 0 ∷ 1 ∷ []
   pub end-owed : owedFields (owedTold rowNet filling) ≡ 0 ∷ 0 ∷ 0 ∷ 2 ∷ 0 ∷ 1 ∷ 64 ∷ 1 ∷ 2 ∷ []
   pub at-rest : owedFields (owedTold rowNet filled) ≡ 0 ∷ 0 ∷ 0 ∷ 0 ∷ 0 ∷ 0 ∷ 64 ∷ 64 ∷ 4 ∷ []
   pub no-report : owedFields (owedTold rowNet overdue) ≡ 9 ∷ 1 ∷ 0 ∷ 0 ∷ 0 ∷ 0 ∷ 0 ∷ 0 ∷ 0 ∷ []

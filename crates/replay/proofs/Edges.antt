@@ -5,11 +5,11 @@ use Rattle.model.specs.Tab.{tab, all, largest, one}
 use Rattle.model.specs.Net.{width, tokens, count, build, initialState}
 use Rattle.model.specs.Owed.{owes-start?, owes-end?, standingOf, owed}
 use Rattle.model.specs.Rules.{enabled?, no-start-owed?, no-end-owed?, nothing-running?, timely?, has-room?, started, ended, older, ticked, apply}
-use Rattle.model.specs.Run.{inTurn as turns, run}
+use Rattle.model.specs.Run.{inTurn, run}
 use Rattle.forms.specs.Word.{word, word32, blank?, setWord, setWord32, putWords, putRows}
 use Rattle.forms.specs.Begins.{begins?}
 use Rattle.forms.specs.Places.{rowAt, countAt, stateLength}
-use Rattle.forms.specs.Checked.{inTurn}
+use Rattle.forms.specs.Checked.{inTurn as checksInTurn}
 use Rattle.forms.specs.Stored.{netOf, stateOf, eventsIn}
 use Rattle.forms.specs.Nets.{net-head?, some-weight?, checkRow, checkNet}
 use Rattle.forms.specs.States.{has-head?, none-past?, checkState}
@@ -23,9 +23,9 @@ use Rattle.replay.specs.Edges.{Edges}
 
 pub edges : Edges
 unfolding rowAt word word32 arrived? netLengthIn standingAfter replayed replayLeft initialTold initialLeft owedTold runTold runLeft
-    examineNet examineState examineLog checkNet net-head? begins? checkRow some-weight? inTurn netOf all checkRoom afterInitial
+    examineNet examineState examineLog checkNet net-head? begins? checkRow some-weight? checksInTurn netOf all checkRoom afterInitial
     image headed written setWord setWord32 putWords putRows width largest countAt stateLength tokens count build tab initialState
-    checkState has-head? none-past? blank? checkLog is-log? stateOf eventsIn turns run apply enabled? started ended ticked older
+    checkState has-head? none-past? blank? checkLog is-log? stateOf eventsIn inTurn run apply enabled? started ended ticked older
     no-start-owed? no-end-owed? nothing-running? timely? has-room? owes-start? owes-end? standingOf wordOf one owed
 edges = record {
   longest = refl;

@@ -12,7 +12,7 @@ use Rattle.logs.proofs.PairLaws.{rest}
 use Rattle.engine.specs.declared.answers.Verdict.{Verdict}
 use Rattle.engine.specs.Calls.{initialTold, initialLeft, runTold, runLeft, owedTold}
 use Rattle.replay.specs.declared.input.Replayed.{Replayed}
-use Rattle.replay.specs.Replayed.{longestNet, arrived?, netLengthIn, early?, standingAfter, tells, ranOn, notBegun, replayed, replayLeft}
+use Rattle.replay.specs.Replayed.{longestNet, arrived?, netLengthIn, early?, standingAfter, withStanding, ranOn, notBegun, replayed, replayLeft}
 
 -- WHERE THE NET ENDS
 
@@ -48,7 +48,7 @@ stands-late early number net state standing e h s = rw (sym e ∙ h) s
 
 -- the run, and the standing of the buffer that it left
 pub ran-on : (net state log : List ℕ) (told : Told) (left : List ℕ) (standing : ℕ) → told ≡ runTold net state log → left ≡ runLeft net state log
-    → standing ≡ standingAfter (told .number) net left → (tells told standing ≡ ranOn net state log) × (left ≡ runLeft net state log)
+    → standing ≡ standingAfter (told .number) net left → (withStanding told standing ≡ ranOn net state log) × (left ≡ runLeft net state log)
 ran-on net state log told left standing e l s = (rw (s, l, e) refl, l)
 
 -- THE WHOLE

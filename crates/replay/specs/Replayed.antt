@@ -47,14 +47,14 @@ early? number = leb 1 number && leb number lastEarly
 unfoldable pub standingAfter : ℕ → List ℕ → List ℕ → ℕ
 standingAfter number net state = cond (early? number) 0 (owedTold net state .standing)
 
-abbrev pub tells : Told → ℕ → Replayed
-tells told standing =
+abbrev pub withStanding : Told → ℕ → Replayed
+withStanding told standing =
     record { number = told .number; index = told .index; done = told .done; ticks = told .ticks; standing = standing }
 
 -- the log run from a state
 abbrev pub ranOn : List ℕ → List ℕ → List ℕ → Replayed
 ranOn net state log =
-    tells (runTold net state log) (standingAfter (runTold net state log .number) net (runLeft net state log))
+    withStanding (runTold net state log) (standingAfter (runTold net state log .number) net (runLeft net state log))
 
 -- no initial state could be made
 abbrev pub notBegun : Verdict → Replayed
