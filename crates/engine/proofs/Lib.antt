@@ -8,5 +8,6 @@ pub mod WholeLog
 pub mod Demands
 pub mod Checks
 pub mod Faults
+pub mod PartGiven
 pub mod OnBytes
 pub mod Determined

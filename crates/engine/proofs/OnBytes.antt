@@ -4,6 +4,7 @@ use Rattle.forms.proofs.Logs.{log-exact}
 use Rattle.forms.proofs.AsListed.{as-listed}
 use Rattle.engine.specs.OnBytes.{OnBytes}
 use Rattle.engine.proofs.StepParts.{steps-of}
+use Rattle.engine.proofs.PartGiven.{part-given}
 use Rattle.engine.proofs.Demands.{demand-2, demand-3}
 use Rattle.engine.proofs.Checks.{initial-given, told-passes, told-fault}
 use Rattle.engine.proofs.Faults.{examines}
@@ -19,4 +20,5 @@ on-bytes = record {
   initial = initial-given;
   log-good = log-exact;
   steps = steps-of;
+  parts = part-given;
 }

@@ -5,12 +5,14 @@ use mathlib.Core.Path.{_≡_}
 use mathlib.Core.Logic.{_↔_}
 use mathlib.Core.List.{List}
 use Prim.Native.Nat.{ℕ}
+use denote.Ref.{RefT, now}
 use Rattle.forms.specs.declared.fault.Checked.the-variants as checked
 use Rattle.forms.specs.Word.{Bytes}
 use Rattle.forms.specs.Logs.{IsLog, checkLog}
 use Rattle.forms.specs.AsListed.{AsListed}
 use Rattle.engine.specs.Examined.{examineNet, examineState}
-use Rattle.engine.specs.Steps.{StepsOf}
+use Rattle.engine.specs.Calls.{stepTold, PartOf}
+use Rattle.engine.specs.Steps.{StepsOf, PartGiven}
 use Rattle.engine.specs.Demands.{Passes, Demand2, Demand3, InitialGiven, ToldPasses, ToldFault}
 use Rattle.engine.specs.Faults.{Examines}
 
@@ -28,3 +30,5 @@ pub record OnBytes : Type 0 where
   pub initial : (net b : List ℕ) → Bytes net → Passes (examineNet net) → InitialGiven net b
   pub log-good : (log : List ℕ) → (checkLog log ≡ checked.Good) ↔ IsLog log
   pub steps : (log : List ℕ) → checkLog log ≡ checked.Good → StepsOf log
+  -- the part that `step` gives, of which its contract says `PartOf`
+  pub parts : (log part : RefT (List ℕ)) (k : ℕ) → PartOf log part (stepTold (now log) k) → PartGiven log part k
