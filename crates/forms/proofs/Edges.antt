@@ -50,6 +50,7 @@ net-numbers = record {
   no-output = (refl, refl);
   no-output-1 = (refl, refl);
   lowest-first = (refl, refl);
+  four-before-five = (refl, refl);
   five-before-six = (refl, refl);
 }
 

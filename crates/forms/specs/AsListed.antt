@@ -20,10 +20,11 @@ pub record AsListed : Type 0 where
   pub net-good : (N : Net) → Accepted N → IsNet (netBytes N)
   pub net-reads : (N : Net) → SameNet N (netOf (netBytes N))
   pub net-is : (b : List ℕ) → Bytes b → IsNet b → b ≡ netBytes (netOf b)
-  -- a state, at the front of a buffer
+  -- a state, at the front of a buffer; and an accepted one is nothing else
   pub state-good : (N : Net) (S : State) → Lawful N S → IsState N (stateBytes N S)
   pub state-reads : (N : Net) (S : State) → Lawful N S → stateOf N (stateBytes N S) ≡ S
   pub state-written : (N : Net) (S : State) (b : List ℕ) → IsState N b → Bytes b → written N S b ≡ stateBytes N S ++ drop (imageLength N) b
+  pub state-is : (N : Net) (b : List ℕ) → Bytes b → IsState N b → b ≡ stateBytes N (stateOf N b) ++ drop (imageLength N) b
   -- a log: the events follow the head of five bytes
   pub log-good : (part : List ℕ) (n : ℕ) → length part ≡ 2 * n → Logged n → IsLog (logBytes part)
   pub log-is : (b : List ℕ) → Bytes b → IsLog b → b ≡ logBytes (drop 5 b)

@@ -22,21 +22,21 @@ use Rattle.forms.specs.Cases.{rowNet, rowState, rowLog}
 abbrev pub Answers : Checked → ℕ → ℕ → Type 0
 Answers answer number index = (numberOf answer ≡ number) × (indexOf answer ≡ index)
 
--- every fault, with document 01's number and index
-abbrev pub Tells : Fault → ℕ → ℕ → Type 0
-Tells why number index = Answers (checked.Bad why) number index
+abbrev pub Faulted : Fault → ℕ → ℕ → Type 0
+Faulted why number index = Answers (checked.Bad why) number index
 
+-- every fault, with document 01's number and index
 pub record FaultNumbers : Type 0 where
-  pub net-frame : Tells fault.NetFrame 1 0
-  pub net-size : Tells fault.NetSize 2 0
-  pub net-length : Tells fault.NetLength 3 0
-  pub no-interval : (t : ℕ) → Tells (fault.NoInterval t) 4 t
-  pub no-input : (t : ℕ) → Tells (fault.NoInput t) 5 t
-  pub no-output : (t : ℕ) → Tells (fault.NoOutput t) 6 t
-  pub no-room : Tells fault.NoRoom 7 0
-  pub state-frame : Tells fault.StateFrame 8 0
-  pub past-lfd : (t : ℕ) → Tells (fault.PastLfd t) 9 t
-  pub log-frame : Tells fault.LogFrame 10 0
+  pub net-frame : Faulted fault.NetFrame 1 0
+  pub net-size : Faulted fault.NetSize 2 0
+  pub net-length : Faulted fault.NetLength 3 0
+  pub no-interval : (t : ℕ) → Faulted (fault.NoInterval t) 4 t
+  pub no-input : (t : ℕ) → Faulted (fault.NoInput t) 5 t
+  pub no-output : (t : ℕ) → Faulted (fault.NoOutput t) 6 t
+  pub no-room : Faulted fault.NoRoom 7 0
+  pub state-frame : Faulted fault.StateFrame 8 0
+  pub past-lfd : (t : ℕ) → Faulted (fault.PastLfd t) 9 t
+  pub log-frame : Faulted fault.LogFrame 10 0
 
 pub record NetNumbers : Type 0 where
   pub good : Answers (checkNet rowNet) 0 0
@@ -57,6 +57,7 @@ pub record NetNumbers : Type 0 where
   pub no-output : Answers (checkNet (set rowNet 19 0)) 6 0
   pub no-output-1 : Answers (checkNet (set rowNet 28 0)) 6 1
   pub lowest-first : Answers (checkNet (set (set rowNet 19 0) 22 64)) 6 0
+  pub four-before-five : Answers (checkNet (set (set rowNet 14 0) 15 0)) 4 0
   pub five-before-six : Answers (checkNet (set (set rowNet 24 0) 28 0)) 5 1
 
 pub record StateNumbers : Type 0 where
