@@ -11,13 +11,9 @@ sliceMost = 16384
 abbrev pub nameMost : ℕ
 nameMost = 11
 
--- number and index
-abbrev pub verdictMost : ℕ
-verdictMost = nameMost + 2 * fieldMost
-
--- number, index, events done, ticks
-abbrev pub courseMost : ℕ
-courseMost = nameMost + 4 * fieldMost
+-- with number and index
+abbrev pub begunMost : ℕ
+begunMost = nameMost + 2 * fieldMost
 
 -- the two words, ones, lowest of each, and the standing
 abbrev pub setsMost : ℕ
@@ -27,6 +23,6 @@ setsMost = 7 * fieldMost
 abbrev pub bufferMost : ℕ → ℕ
 bufferMost n = 2 + 2 * n
 
--- the longest line without its end: what a run tells, and the state that it left
+-- the longest line without its end, that of a run: events done, ticks, and the state that is left
 abbrev pub lineMost : ℕ
-lineMost = courseMost + bufferMost sliceMost
+lineMost = begunMost + 2 * fieldMost + bufferMost sliceMost

@@ -8,7 +8,7 @@ use text::line;
 ghost use Prim.Native.Nat.{_+_, _*_, _<_, _≤_};
 ghost use lib.ListN.{length};
 ghost use Rattle.text.specs.Lines.{fieldMost};
-ghost use Rattle.menuask.specs.Sizes.{sliceMost, nameMost, verdictMost, courseMost, setsMost, bufferMost, lineMost};
+ghost use Rattle.menuask.specs.Sizes.{sliceMost, nameMost, begunMost, setsMost, bufferMost, lineMost};
 
 // A blank and a buffer in hex, or `-` for an empty one.
 fn buffer(out: &mut [u8], at: usize, state: &[u8]) -> usize
@@ -22,33 +22,49 @@ fn buffer(out: &mut [u8], at: usize, state: &[u8]) -> usize
     line::put_hex(out, from, state)
 }
 
-// A name, a number and an index.
-fn verdict(out: &mut [u8], name: &[u8], told: Verdict) -> usize
-    requires { ⌜ (length (now name) ≤ nameMost) × (verdictMost ≤ length (now out)) ⌝ }
-    ensures { λ r. ⌜ r ≤ verdictMost ⌝ }
+// A call's name, and the number and the index that it tells: how every line begins.
+fn begun(out: &mut [u8], name: &[u8], number: u8, index: usize) -> usize
+    requires { ⌜ (length (now name) ≤ nameMost) × (begunMost ≤ length (now out)) ⌝ }
+    ensures { λ r. ⌜ r ≤ begunMost ⌝ }
 {
     let at = line::put_bytes(out, 0, name);
-    let number = line::put_field(out, at, told.number as u64);
-    line::put_field(out, number, told.index as u64)
+    pair(out, at, number as u64, index as u64)
 }
 
-// A name and what a run or a walk tells.
-fn course(out: &mut [u8], name: &[u8], told: Told) -> usize
-    requires { ⌜ (length (now name) ≤ nameMost) × (courseMost ≤ length (now out)) ⌝ }
-    ensures { λ r. ⌜ r ≤ courseMost ⌝ }
+// Two numbers.
+fn pair(out: &mut [u8], at: usize, first: u64, second: u64) -> usize
+    requires { ⌜ at + 2 * fieldMost ≤ length (now out) ⌝ }
+    ensures { λ r. ⌜ r ≤ at + 2 * fieldMost ⌝ }
 {
-    let at = line::put_bytes(out, 0, name);
-    let number = line::put_field(out, at, told.number as u64);
-    let index = line::put_field(out, number, told.index as u64);
-    let done = line::put_field(out, index, told.done as u64);
-    line::put_field(out, done, told.ticks as u64)
+    let behind = line::put_field(out, at, first);
+    line::put_field(out, behind, second)
+}
+
+// The line of a call that tells number and index alone, and may write.
+fn verdict(out: &mut [u8], name: &[u8], told: Verdict, state: &[u8]) -> usize
+    requires { ⌜ (length (now name) ≤ nameMost) × (lineMost < length (now out)) × (length (now state) ≤ sliceMost) ⌝ }
+    ensures { λ r. ⌜ r ≤ lineMost ⌝ }
+{
+    let at = begun(out, name, told.number, told.index);
+    buffer(out, at, state)
+}
+
+// The line of a run or a walk.
+fn course(out: &mut [u8], name: &[u8], told: Told, state: &[u8]) -> usize
+    requires { ⌜ (length (now name) ≤ nameMost) × (lineMost < length (now out)) × (length (now state) ≤ sliceMost) ⌝ }
+    ensures { λ r. ⌜ r ≤ lineMost ⌝ }
+{
+    let at = begun(out, name, told.number, told.index);
+    let ticks = pair(out, at, told.done as u64, told.ticks as u64);
+    buffer(out, ticks, state)
 }
 
 fn check_net(out: &mut [u8], net: &[u8]) -> usize
     requires { ⌜ lineMost < length (now out) ⌝ }
     ensures { λ r. ⌜ r ≤ lineMost ⌝ }
 {
-    verdict(out, b"check_net", calls::check_net(net))
+    let told = calls::check_net(net);
+    begun(out, b"check_net", told.number, told.index)
 }
 
 fn initial(out: &mut [u8], net: &[u8], state: &mut [u8]) -> usize
@@ -56,15 +72,15 @@ fn initial(out: &mut [u8], net: &[u8], state: &mut [u8]) -> usize
     ensures { λ r. ⌜ r ≤ lineMost ⌝ }
 {
     let told = calls::initial(net, state);
-    let at = verdict(out, b"initial", told);
-    buffer(out, at, state)
+    verdict(out, b"initial", told, state)
 }
 
 fn check_state(out: &mut [u8], net: &[u8], state: &[u8]) -> usize
     requires { ⌜ lineMost < length (now out) ⌝ }
     ensures { λ r. ⌜ r ≤ lineMost ⌝ }
 {
-    verdict(out, b"check_state", calls::check_state(net, state))
+    let told = calls::check_state(net, state);
+    begun(out, b"check_state", told.number, told.index)
 }
 
 fn event(out: &mut [u8], net: &[u8], state: &mut [u8], first: u8, second: u8) -> usize
@@ -72,8 +88,7 @@ fn event(out: &mut [u8], net: &[u8], state: &mut [u8], first: u8, second: u8) ->
     ensures { λ r. ⌜ r ≤ lineMost ⌝ }
 {
     let told = calls::event(net, state, first, second);
-    let at = verdict(out, b"event", told);
-    buffer(out, at, state)
+    verdict(out, b"event", told, state)
 }
 
 fn back(out: &mut [u8], net: &[u8], state: &mut [u8], first: u8, second: u8) -> usize
@@ -81,8 +96,7 @@ fn back(out: &mut [u8], net: &[u8], state: &mut [u8], first: u8, second: u8) -> 
     ensures { λ r. ⌜ r ≤ lineMost ⌝ }
 {
     let told = calls::back(net, state, first, second);
-    let at = verdict(out, b"back", told);
-    buffer(out, at, state)
+    verdict(out, b"back", told, state)
 }
 
 fn degree(out: &mut [u8], net: &[u8], state: &[u8], t: usize) -> usize
@@ -90,19 +104,8 @@ fn degree(out: &mut [u8], net: &[u8], state: &[u8], t: usize) -> usize
     ensures { λ r. ⌜ r ≤ lineMost ⌝ }
 {
     let told = calls::degree(net, state, t);
-    let at = line::put_bytes(out, 0, b"degree");
-    let number = line::put_field(out, at, told.number as u64);
-    let index = line::put_field(out, number, told.index as u64);
-    line::put_field(out, index, told.degree as u64)
-}
-
-// Two numbers: of the enabled transitions, and of the due ones.
-fn pair(out: &mut [u8], at: usize, enabled: u64, due: u64) -> usize
-    requires { ⌜ at + 2 * fieldMost ≤ length (now out) ⌝ }
-    ensures { λ r. ⌜ r ≤ at + 2 * fieldMost ⌝ }
-{
-    let behind = line::put_field(out, at, enabled);
-    line::put_field(out, behind, due)
+    let at = begun(out, b"degree", told.number, told.index);
+    line::put_field(out, at, told.degree as u64)
 }
 
 // The two words, the number of set bits of each, the lowest of each, and the standing.
@@ -121,10 +124,8 @@ fn owed(out: &mut [u8], net: &[u8], state: &[u8]) -> usize
     ensures { λ r. ⌜ r ≤ lineMost ⌝ }
 {
     let told = calls::owed(net, state);
-    let at = line::put_bytes(out, 0, b"owed");
-    let number = line::put_field(out, at, told.number as u64);
-    let index = line::put_field(out, number, told.index as u64);
-    sets(out, index, told.starts, told.ends, told.standing)
+    let at = begun(out, b"owed", told.number, told.index);
+    sets(out, at, told.starts, told.ends, told.standing)
 }
 
 fn run(out: &mut [u8], net: &[u8], state: &mut [u8], log: &[u8]) -> usize
@@ -132,8 +133,7 @@ fn run(out: &mut [u8], net: &[u8], state: &mut [u8], log: &[u8]) -> usize
     ensures { λ r. ⌜ r ≤ lineMost ⌝ }
 {
     let told = calls::run(net, state, log);
-    let at = course(out, b"run", told);
-    buffer(out, at, state)
+    course(out, b"run", told, state)
 }
 
 fn walk(out: &mut [u8], net: &[u8], state: &mut [u8], log: &[u8], n: usize) -> usize
@@ -141,8 +141,7 @@ fn walk(out: &mut [u8], net: &[u8], state: &mut [u8], log: &[u8], n: usize) -> u
     ensures { λ r. ⌜ r ≤ lineMost ⌝ }
 {
     let told = calls::walk(net, state, log, n);
-    let at = course(out, b"walk", told);
-    buffer(out, at, state)
+    course(out, b"walk", told, state)
 }
 
 fn step(out: &mut [u8], log: &[u8], k: usize) -> usize
@@ -150,11 +149,8 @@ fn step(out: &mut [u8], log: &[u8], k: usize) -> usize
     ensures { λ r. ⌜ r ≤ lineMost ⌝ }
 {
     let told = calls::step_told(log, k);
-    let at = line::put_bytes(out, 0, b"step");
-    let number = line::put_field(out, at, told.number as u64);
-    let index = line::put_field(out, number, told.index as u64);
-    let start = line::put_field(out, index, told.start as u64);
-    line::put_field(out, start, told.length as u64)
+    let at = begun(out, b"step", told.number, told.index);
+    pair(out, at, told.start as u64, told.length as u64)
 }
 
 // The answer to a request of a known kind, at the buffer's front.

@@ -174,12 +174,12 @@ fn slice_if(wanted: bool, block: &mut [u8], feed: Feed, into: &mut [u8]) -> Fiel
     slice(block, feed, into)
 }
 
-// What a request of this kind has.
+// What a request of this kind has. One of an unknown kind has nothing.
 fn parts_of(kind: u8) -> Parts {
     Parts {
-        net: kind < 10,
+        net: 1 <= kind && kind <= 9,
         state: 2 <= kind && kind <= 9,
-        log: 8 <= kind,
+        log: 8 <= kind && kind <= 10,
         numbers: numbers(kind),
     }
 }
@@ -193,13 +193,21 @@ fn numbers(kind: u8) -> usize {
     }
 }
 
-// The feed behind a request, which is closed where a byte of an event is more than a byte.
-fn checked(feed: Feed, numbers: usize, first: usize, second: usize) -> Feed
+// The feed behind a request, which is closed where the kind is unknown or a byte of an event is more than a byte.
+fn checked(feed: Feed, kind: u8, first: usize, second: usize) -> Feed
     ensures { λ r. ⌜ r .end ≤ feed .end ⌝ }
 {
-    if numbers < 2 {
-        return feed;
+    match kind {
+        4 | 5 => bytes_checked(feed, first, second),
+        1..=10 => feed,
+        _ => Feed::closed(),
     }
+}
+
+// The feed behind an event.
+fn bytes_checked(feed: Feed, first: usize, second: usize) -> Feed
+    ensures { λ r. ⌜ r .end ≤ feed .end ⌝ }
+{
     if 255 < first {
         return Feed::closed();
     }
@@ -209,8 +217,8 @@ fn checked(feed: Feed, numbers: usize, first: usize, second: usize) -> Feed
     feed
 }
 
-// The slices and numbers of a request of a known kind. Its feed is closed where they are bad.
-fn fields(
+// What follows the kind of a request: its slices and numbers. The feed is closed where the request is bad.
+pub fn read(
     kind: u8,
     block: &mut [u8],
     feed: Feed,
@@ -229,37 +237,11 @@ fn fields(
     let first = number_if(1 <= has.numbers, block, logs.feed);
     let second = number_if(2 <= has.numbers, block, first.feed);
     Request {
-        feed: checked(second.feed, has.numbers, first.value, second.value),
+        feed: checked(second.feed, kind, first.value, second.value),
         net: nets.value,
         state: states.value,
         log: logs.value,
         first: first.value,
         second: second.value,
-    }
-}
-
-// What follows the kind of a request. The feed is closed where the request is bad.
-pub fn read(
-    kind: u8,
-    block: &mut [u8],
-    feed: Feed,
-    net: &mut [u8],
-    state: &mut [u8],
-    log: &mut [u8],
-) -> Request
-    requires { ⌜ feed .end ≤ length (now block) ⌝ }
-    ensures { λ r. ⌜ r .feed .end ≤ length (now (block .exit)) ⌝ }
-    ensures { λ r. ⌜ (r .net ≤ length (now (net .exit))) × (r .state ≤ length (now (state .exit))) × (r .log ≤ length (now (log .exit))) ⌝ }
-{
-    match kind {
-        1..=10 => fields(kind, block, feed, net, state, log),
-        _ => Request {
-            feed: Feed::closed(),
-            net: 0,
-            state: 0,
-            log: 0,
-            first: 0,
-            second: 0,
-        },
     }
 }

@@ -1,10 +1,10 @@
--- `request::fields` meets its contract: each part leaves the feed within the block.
+-- `request::read` meets its contract: each part leaves the feed within the block.
 -- Assumes nothing.
 use mathlib.Core.Path.{_∙_}
 use native.Mathlib.Omega.{arith}
 use borrow.Author.Needs.{needs}
-use Rattle.menuask.proofs.request.fields.Statement.{statement}
-use Rattle.menuask.proofs.request.fields.Tie as tie
+use Rattle.menuask.proofs.request.read.Statement.{statement}
+use Rattle.menuask.proofs.request.read.Tie as tie
 
 parts-of-requires : tie.Need-parts-of-requires
 parts-of-requires c κs = search needs
@@ -51,8 +51,8 @@ returns c =
       (c .before .before .before .before .before .before .before .before .before .before .before .before .before .before .before .before .before .before .before .before .before .before .before .before .before .before .before .before .before .slice-if .ensures .1, c .before .before .before .before .before .before .before .before .before .before .before .before .before .before .before .before .before .before .before .before .before .before .slice-if2 .ensures .1, c .before .before .before .before .before .before .before .before .before .before .before .before .before .before .before .slice-if3 .ensures .1),
     )
 
-pub fields-spec : {M : Type 1} → statement M
-fields-spec =
+pub read-spec : {M : Type 1} → statement M
+read-spec =
     tie.close
     (tie.spec
     parts-of-requires
