@@ -15,10 +15,6 @@ nameMost = 11
 abbrev pub begunMost : ℕ
 begunMost = nameMost + 2 * fieldMost
 
--- the two words, ones, lowest of each, and the standing
-abbrev pub setsMost : ℕ
-setsMost = 7 * fieldMost
-
 -- a blank and a buffer of n bytes: two digits for each, or `-` for none
 abbrev pub bufferMost : ℕ → ℕ
 bufferMost n = 2 + 2 * n

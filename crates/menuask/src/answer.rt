@@ -1,14 +1,11 @@
-// The line of each call: its name, the answer's fields, and for a call that may write, the whole buffer afterwards.
+// The line of each call: its name, the answer's fields, and for a call that may write, the whole buffer afterwards. The calls are those
+// of the C interface, so that the test vectors hold it too.
 use crate::request::Request;
-use engine::answers::Verdict;
-use engine::calls;
-use owed::report::OwedSet;
-use runs::told::Told;
 use text::line;
 ghost use Prim.Native.Nat.{_+_, _*_, _<_, _≤_};
 ghost use lib.ListN.{length};
 ghost use Rattle.text.specs.Lines.{fieldMost};
-ghost use Rattle.menuask.specs.Sizes.{sliceMost, nameMost, begunMost, setsMost, bufferMost, lineMost};
+ghost use Rattle.menuask.specs.Sizes.{sliceMost, nameMost, begunMost, bufferMost, lineMost};
 
 // A blank and a buffer in hex, or `-` for an empty one.
 fn buffer(out: &mut [u8], at: usize, state: &[u8]) -> usize
@@ -23,12 +20,12 @@ fn buffer(out: &mut [u8], at: usize, state: &[u8]) -> usize
 }
 
 // A call's name, and the number and the index that it tells: how every line begins.
-fn begun(out: &mut [u8], name: &[u8], number: u8, index: usize) -> usize
+fn begun(out: &mut [u8], name: &[u8], number: u64, index: u64) -> usize
     requires { ⌜ (length (now name) ≤ nameMost) × (begunMost ≤ length (now out)) ⌝ }
     ensures { λ r. ⌜ r ≤ begunMost ⌝ }
 {
     let at = line::put_bytes(out, 0, name);
-    pair(out, at, number as u64, index as u64)
+    pair(out, at, number, index)
 }
 
 // Two numbers.
@@ -40,117 +37,108 @@ fn pair(out: &mut [u8], at: usize, first: u64, second: u64) -> usize
     line::put_field(out, behind, second)
 }
 
-// The line of a call that tells number and index alone, and may write.
-fn verdict(out: &mut [u8], name: &[u8], told: Verdict, state: &[u8]) -> usize
-    requires { ⌜ (length (now name) ≤ nameMost) × (lineMost < length (now out)) × (length (now state) ≤ sliceMost) ⌝ }
-    ensures { λ r. ⌜ r ≤ lineMost ⌝ }
-{
-    let at = begun(out, name, told.number, told.index);
-    buffer(out, at, state)
-}
-
-// The line of a run or a walk.
-fn course(out: &mut [u8], name: &[u8], told: Told, state: &[u8]) -> usize
-    requires { ⌜ (length (now name) ≤ nameMost) × (lineMost < length (now out)) × (length (now state) ≤ sliceMost) ⌝ }
-    ensures { λ r. ⌜ r ≤ lineMost ⌝ }
-{
-    let at = begun(out, name, told.number, told.index);
-    let ticks = pair(out, at, told.done as u64, told.ticks as u64);
-    buffer(out, ticks, state)
-}
-
 fn check_net(out: &mut [u8], net: &[u8]) -> usize
     requires { ⌜ lineMost < length (now out) ⌝ }
     ensures { λ r. ⌜ r ≤ lineMost ⌝ }
 {
-    let told = calls::check_net(net);
-    begun(out, b"check_net", told.number, told.index)
+    let mut told = [0u64; 2];
+    menu::menu_check_net(net, &mut told);
+    begun(out, b"check_net", told[0], told[1])
 }
 
 fn initial(out: &mut [u8], net: &[u8], state: &mut [u8]) -> usize
     requires { ⌜ (lineMost < length (now out)) × (length (now state) ≤ sliceMost) ⌝ }
     ensures { λ r. ⌜ r ≤ lineMost ⌝ }
 {
-    let told = calls::initial(net, state);
-    verdict(out, b"initial", told, state)
+    let mut told = [0u64; 2];
+    menu::menu_initial(net, state, &mut told);
+    let at = begun(out, b"initial", told[0], told[1]);
+    buffer(out, at, state)
 }
 
 fn check_state(out: &mut [u8], net: &[u8], state: &[u8]) -> usize
     requires { ⌜ lineMost < length (now out) ⌝ }
     ensures { λ r. ⌜ r ≤ lineMost ⌝ }
 {
-    let told = calls::check_state(net, state);
-    begun(out, b"check_state", told.number, told.index)
+    let mut told = [0u64; 2];
+    menu::menu_check_state(net, state, &mut told);
+    begun(out, b"check_state", told[0], told[1])
 }
 
 fn event(out: &mut [u8], net: &[u8], state: &mut [u8], first: u8, second: u8) -> usize
     requires { ⌜ (lineMost < length (now out)) × (length (now state) ≤ sliceMost) ⌝ }
     ensures { λ r. ⌜ r ≤ lineMost ⌝ }
 {
-    let told = calls::event(net, state, first, second);
-    verdict(out, b"event", told, state)
+    let mut told = [0u64; 2];
+    menu::menu_event(net, state, first, second, &mut told);
+    let at = begun(out, b"event", told[0], told[1]);
+    buffer(out, at, state)
 }
 
 fn back(out: &mut [u8], net: &[u8], state: &mut [u8], first: u8, second: u8) -> usize
     requires { ⌜ (lineMost < length (now out)) × (length (now state) ≤ sliceMost) ⌝ }
     ensures { λ r. ⌜ r ≤ lineMost ⌝ }
 {
-    let told = calls::back(net, state, first, second);
-    verdict(out, b"back", told, state)
+    let mut told = [0u64; 2];
+    menu::menu_back(net, state, first, second, &mut told);
+    let at = begun(out, b"back", told[0], told[1]);
+    buffer(out, at, state)
 }
 
 fn degree(out: &mut [u8], net: &[u8], state: &[u8], t: usize) -> usize
     requires { ⌜ lineMost < length (now out) ⌝ }
     ensures { λ r. ⌜ r ≤ lineMost ⌝ }
 {
-    let told = calls::degree(net, state, t);
-    let at = begun(out, b"degree", told.number, told.index);
-    line::put_field(out, at, told.degree as u64)
+    let mut told = [0u64; 3];
+    menu::menu_degree(net, state, t, &mut told);
+    let at = begun(out, b"degree", told[0], told[1]);
+    line::put_field(out, at, told[2])
 }
 
 // The two words, the number of set bits of each, the lowest of each, and the standing.
-fn sets(out: &mut [u8], at: usize, starts: OwedSet, ends: OwedSet, standing: u8) -> usize
-    requires { ⌜ at + setsMost ≤ length (now out) ⌝ }
-    ensures { λ r. ⌜ r ≤ at + setsMost ⌝ }
-{
-    let words = pair(out, at, starts.word, ends.word);
-    let ones = pair(out, words, starts.count as u64, ends.count as u64);
-    let lowest = pair(out, ones, starts.lowest as u64, ends.lowest as u64);
-    line::put_field(out, lowest, standing as u64)
-}
-
 fn owed(out: &mut [u8], net: &[u8], state: &[u8]) -> usize
     requires { ⌜ lineMost < length (now out) ⌝ }
     ensures { λ r. ⌜ r ≤ lineMost ⌝ }
 {
-    let told = calls::owed(net, state);
-    let at = begun(out, b"owed", told.number, told.index);
-    sets(out, at, told.starts, told.ends, told.standing)
+    let mut told = [0u64; 9];
+    menu::menu_owed(net, state, &mut told);
+    let at = begun(out, b"owed", told[0], told[1]);
+    let words = pair(out, at, told[2], told[3]);
+    let ones = pair(out, words, told[4], told[5]);
+    let lowest = pair(out, ones, told[6], told[7]);
+    line::put_field(out, lowest, told[8])
 }
 
 fn run(out: &mut [u8], net: &[u8], state: &mut [u8], log: &[u8]) -> usize
     requires { ⌜ (lineMost < length (now out)) × (length (now state) ≤ sliceMost) ⌝ }
     ensures { λ r. ⌜ r ≤ lineMost ⌝ }
 {
-    let told = calls::run(net, state, log);
-    course(out, b"run", told, state)
+    let mut told = [0u64; 4];
+    menu::menu_run(net, state, log, &mut told);
+    let at = begun(out, b"run", told[0], told[1]);
+    let ticks = pair(out, at, told[2], told[3]);
+    buffer(out, ticks, state)
 }
 
 fn walk(out: &mut [u8], net: &[u8], state: &mut [u8], log: &[u8], n: usize) -> usize
     requires { ⌜ (lineMost < length (now out)) × (length (now state) ≤ sliceMost) ⌝ }
     ensures { λ r. ⌜ r ≤ lineMost ⌝ }
 {
-    let told = calls::walk(net, state, log, n);
-    course(out, b"walk", told, state)
+    let mut told = [0u64; 4];
+    menu::menu_walk(net, state, log, n, &mut told);
+    let at = begun(out, b"walk", told[0], told[1]);
+    let ticks = pair(out, at, told[2], told[3]);
+    buffer(out, ticks, state)
 }
 
 fn step(out: &mut [u8], log: &[u8], k: usize) -> usize
     requires { ⌜ lineMost < length (now out) ⌝ }
     ensures { λ r. ⌜ r ≤ lineMost ⌝ }
 {
-    let told = calls::step_told(log, k);
-    let at = begun(out, b"step", told.number, told.index);
-    pair(out, at, told.start as u64, told.length as u64)
+    let mut told = [0u64; 4];
+    menu::menu_step(log, k, &mut told);
+    let at = begun(out, b"step", told[0], told[1]);
+    pair(out, at, told[2], told[3])
 }
 
 // The answer to a request of a known kind, at the buffer's front.
