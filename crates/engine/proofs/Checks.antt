@@ -30,7 +30,7 @@ use Rattle.engine.specs.Answers.{verdict, accepted, verdictOf, unfit, no
 use Rattle.engine.specs.Calls.{netTold, stateTold, initialTold, initialLeft, eventTold, eventLeft, backTold, backLeft}
 use Rattle.engine.specs.Calls.{degreeTold, owedTold, runTold, runLeft, walkTold, walkLeft, stepTold}
 use Rattle.engine.specs.Demands.{Passes, InitialGiven, ToldPasses, ToldFault}
-use Rattle.engine.proofs.Fits.{net-fits}
+use Rattle.engine.proofs.Fits.{good-then, bad-then, net-fits}
 use Rattle.engine.proofs.PastChecks.{fits-state}
 
 -- THE INITIAL STATE
@@ -94,21 +94,13 @@ net-zero : (c : Checked) (shape : Shape) → numberOf c ≡ 0 → Passes (ifGood
 net-zero checked.Good shape z = (shape, refl)
 net-zero (checked.Bad why) shape z = fault-number why z
 
-net-passes : (c : Checked) (shape s : Shape) → ifGood c (examined.Fit shape) ≡ examined.Fit s → numberOf c ≡ 0
-net-passes checked.Good shape s e = refl
-net-passes (checked.Bad why) shape s e = let z : _≡_ {A = ℕ} 0 1 = cc in absurd (omega arith)
-
-net-faults : (c : Checked) (shape : Shape) (why : Fault) → ifGood c (examined.Fit shape) ≡ examined.Unfit why → verdictOf c ≡ unfit why
-net-faults checked.Good shape why e = let z : _≡_ {A = ℕ} 0 1 = cc in absurd (omega arith)
-net-faults (checked.Bad other) shape why e = let z : other ≡ why = cc in ap unfit z
-
 pub told-passes : (net b : List ℕ) → ToldPasses net b
 unfolding netTold stateTold initialTold eventTold backTold degreeTold owedTold runTold walkTold examineNet
 told-passes net b =
     let verdict : Verdict → ℕ = λ x. x .number in
     let told : Told → ℕ = λ x. x .number in
     record {
-      check-net = (net-zero (checkNet net) _, λ p. net-passes (checkNet net) _ (p .0) (p .1));
+      check-net = (net-zero (checkNet net) _, λ (s, e). ap numberOf (good-then (checkNet net) _ e .0));
       check-state = (
         zero-passes (examineState net b) accepted unfit verdict (λ why. refl),
         λ p. rw (p .1),
@@ -126,7 +118,7 @@ pub told-fault : (net b : List ℕ) → ToldFault net b
 unfolding netTold stateTold initialTold initialLeft eventTold eventLeft backTold backLeft degreeTold owedTold
     runTold runLeft walkTold walkLeft stepTold examineNet
 told-fault net b = record {
-  check-net = λ why e. net-faults (checkNet net) _ why e;
+  check-net = λ why e. ap verdictOf (bad-then (checkNet net) _ e);
   check-state = λ why e. rw e;
   initial = λ why e. (rw e, rw e);
   event = λ why e first second. (rw e, rw e);

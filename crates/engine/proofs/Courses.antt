@@ -65,26 +65,29 @@ unchanged : (N : Net) (o : Outcome) (b : List ℕ) → ¬ (numberOfAnswer (answe
 unchanged N (done S′) b h = absurd (h refl)
 unchanged N (refused why) b h = refl
 
--- what is told and left by an outcome
-module _ (N : Net) (b : List ℕ) (o : Outcome) (r : Verdict) (b′ : List ℕ)
-    (said : r ≡ answered (answerOf o)) (wrote : b′ ≡ after N o b) where
+-- by an outcome r is told, and of the buffer b the buffer b′ is left
+pub record ComesTo (N : Net) (b : List ℕ) (o : Outcome) (r : Verdict) (b′ : List ℕ) : Type 0 where
+  pub said : r ≡ answered (answerOf o)
+  pub wrote : b′ ≡ after N o b
+
+module _ {N : Net} {b : List ℕ} {o : Outcome} {r : Verdict} {b′ : List ℕ} (c : ComesTo N b o r b′) where
   number-is : r .number ≡ numberOfAnswer (answerOf o)
-  number-is = ap (λ (x : Verdict). x .number) said
+  number-is = ap (λ (x : Verdict). x .number) (c .said)
 
   pub is-done : r .number ≡ 0 → (S′ : State) × (o ≡ done S′)
   is-done e = number-done o (sym number-is ∙ e)
 
   pub on-done : (S′ : State) → o ≡ done S′ → (r ≡ accepted) × (b′ ≡ written N S′ b)
-  on-done S′ d = (said ∙ ap (λ (x : Outcome). answered (answerOf x)) d, wrote ∙ ap (λ (x : Outcome). after N x b) d)
+  on-done S′ d = (c .said ∙ ap (λ (x : Outcome). answered (answerOf x)) d, c .wrote ∙ ap (λ (x : Outcome). after N x b) d)
 
   pub is-refused : (why : Refusal) → r ≡ verdict (numberOfRefusal why) 0 → o ≡ refused why
   is-refused why e = number-refused o why (sym number-is ∙ ap (λ (x : Verdict). x .number) e)
 
   pub on-refused : (why : Refusal) → o ≡ refused why → r ≡ verdict (numberOfRefusal why) 0
-  on-refused why d = said ∙ ap (λ (x : Outcome). answered (answerOf x)) d
+  on-refused why d = c .said ∙ ap (λ (x : Outcome). answered (answerOf x)) d
 
   pub on-none : ¬ (r .number ≡ 0) → b′ ≡ b
-  on-none h = wrote ∙ unchanged N o b (λ e. h (number-is ∙ e))
+  on-none h = c .wrote ∙ unchanged N o b (λ e. h (number-is ∙ e))
 
 -- RUNS AND WALKS OF THE MODEL
 

@@ -23,6 +23,7 @@ use Rattle.engine.specs.declared.examine.Examined.the-variants as examin
 use Rattle.engine.specs.Examined.{ifGood, thenCheck, examineNet, examineState, examineLog}
 use Rattle.engine.specs.Demands.{Passes}
 use Rattle.engine.specs.Faults.{StateUnfit, LogUnfit, Examines}
+use Rattle.engine.proofs.Fits.{good-then, bad-then, fit-then, net-unfit}
 
 -- ONE CHECK BEHIND ANOTHER
 
@@ -32,14 +33,11 @@ data Where (before : Examined) (check : Checked) (why : Fault) : Type 0 where
   here : (s : Shape) → before ≡ examined.Fit s → check ≡ checked.Bad why → Where before check why
 
 found : (before : Examined) (check : Checked) (why : Fault) → thenCheck before check ≡ examined.Unfit why → Where before check why
-found (examined.Fit s) checked.Good why e = let z : _≡_ {A = ℕ} 0 1 = cc in absurd (omega arith)
-found (examined.Fit s) (checked.Bad other) why e = let z : other ≡ why = cc in Where.here s refl (ap checked.Bad z)
+found (examined.Fit s) check why e = Where.here s refl (bad-then check s e)
 found (examined.Unfit other) check why e = Where.earlier e
 
 passed : (before : Examined) (check : Checked) → Passes (thenCheck before check) → Passes before × (check ≡ checked.Good)
-passed (examined.Fit s) checked.Good p = (p, refl)
-passed (examined.Fit s) (checked.Bad why) (_, e) = let z : _≡_ {A = ℕ} 0 1 = cc in absurd (omega arith)
-passed (examined.Unfit why) check (_, e) = let z : _≡_ {A = ℕ} 0 1 = cc in absurd (omega arith)
+passed before check (s, e) = let (f, g) = fit-then before check e in ((s, f), g)
 
 passes : (before : Examined) (check : Checked) → Passes before → check ≡ checked.Good → Passes (thenCheck before check)
 passes before check (s, e) g = (s, rw (e, g))
@@ -55,21 +53,13 @@ log-only log why e = only (is-log? log) why e
 
 -- THE NET
 
-good : (c : Checked) (s : Shape) → Passes (ifGood c (examined.Fit s)) → c ≡ checked.Good
-good checked.Good s p = refl
-good (checked.Bad why) s (_, e) = let z : _≡_ {A = ℕ} 0 1 = cc in absurd (omega arith)
-
 fit-good : (c : Checked) (s : Shape) → c ≡ checked.Good → Passes (ifGood c (examined.Fit s))
 fit-good c s g = (s, rw g)
-
-bad : (c : Checked) (s : Shape) (why : Fault) → ifGood c (examined.Fit s) ≡ examined.Unfit why → c ≡ checked.Bad why
-bad checked.Good s why e = let z : _≡_ {A = ℕ} 0 1 = cc in absurd (omega arith)
-bad (checked.Bad other) s why e = let z : other ≡ why = cc in ap checked.Bad z
 
 module _ (net : List ℕ) where
   net-good : Passes (examineNet net) → checkNet net ≡ checked.Good
   unfolding examineNet
-  net-good p = good (checkNet net) _ p
+  net-good (s, e) = good-then (checkNet net) _ e .0
 
   good-net : checkNet net ≡ checked.Good → Passes (examineNet net)
   unfolding examineNet
@@ -77,11 +67,11 @@ module _ (net : List ℕ) where
 
   net-bad : (why : Fault) → examineNet net ≡ examined.Unfit why → checkNet net ≡ checked.Bad why
   unfolding examineNet
-  net-bad why e = bad (checkNet net) _ why e
+  net-bad why e = bad-then (checkNet net) _ e
 
   bad-net : (why : Fault) → checkNet net ≡ checked.Bad why → examineNet net ≡ examined.Unfit why
   unfolding examineNet
-  bad-net why e = rw e
+  bad-net why e = sym (net-unfit net e)
 
   -- AND WHAT FOLLOWS
 

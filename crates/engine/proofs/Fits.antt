@@ -1,6 +1,6 @@
 -- What an examination that finds no fault gives: bytes in their frame. And how the examinations follow one another.
 -- Assumes nothing.
-use mathlib.Core.Path.{_≡_, refl}
+use mathlib.Core.Path.{_≡_, refl, ap}
 use mathlib.Core.List.{List}
 use Prim.Native.Nat.{ℕ}
 use native.Mathlib.Omega.{arith}
@@ -26,12 +26,16 @@ shape N = shapeOf (N .places) (N .transitions) (width N)
 
 -- ONE CHECK, AND WHAT FOLLOWS
 
-good-then : (check : Checked) (rest : Examined) {s : Shape} → ifGood check rest ≡ examined.Fit s
+pub good-then : (check : Checked) (rest : Examined) {s : Shape} → ifGood check rest ≡ examined.Fit s
     → (check ≡ checked.Good) × (rest ≡ examined.Fit s)
 good-then checked.Good rest e = (refl, e)
 good-then (checked.Bad why) rest e = let z : _≡_ {A = ℕ} 0 1 = cc in absurd (omega arith)
 
-fit-then : (before : Examined) (check : Checked) {s : Shape} → thenCheck before check ≡ examined.Fit s
+pub bad-then : (check : Checked) (s : Shape) {why : Fault} → ifGood check (examined.Fit s) ≡ examined.Unfit why → check ≡ checked.Bad why
+bad-then checked.Good s e = let z : _≡_ {A = ℕ} 0 1 = cc in absurd (omega arith)
+bad-then (checked.Bad other) s {why} e = let z : other ≡ why = cc in ap checked.Bad z
+
+pub fit-then : (before : Examined) (check : Checked) {s : Shape} → thenCheck before check ≡ examined.Fit s
     → (before ≡ examined.Fit s) × (check ≡ checked.Good)
 fit-then (examined.Fit s) check e = let g = good-then check (examined.Fit s) e in (g .1, g .0)
 fit-then (examined.Unfit why) check e = let z : _≡_ {A = ℕ} 0 1 = cc in absurd (omega arith)
@@ -59,14 +63,14 @@ module _ (net : List ℕ) (s : Shape) where
 
 -- HOW THEY FOLLOW ONE ANOTHER
 
-pub net-good : (net : List ℕ) (s : Shape) → checkNet net ≡ checked.Good → HasShape (netOf net) s → examined.Fit s ≡ examineNet net
+pub net-fit : (net : List ℕ) (s : Shape) → checkNet net ≡ checked.Good → HasShape (netOf net) s → examined.Fit s ≡ examineNet net
 unfolding examineNet
-net-good net s g h =
+net-fit net s g h =
     rw g (λ i. examined.Fit (record { places = h .places-are i; transitions = h .transitions-are i; width = h .width-is i }))
 
-pub net-bad : (net : List ℕ) {why : Fault} → checkNet net ≡ checked.Bad why → examined.Unfit why ≡ examineNet net
+pub net-unfit : (net : List ℕ) {why : Fault} → checkNet net ≡ checked.Bad why → examined.Unfit why ≡ examineNet net
 unfolding examineNet
-net-bad net g = rw g
+net-unfit net g = rw g
 
 -- one more check, behind what was found so far
 module _ (before : Examined) (check : Checked) where

@@ -7,7 +7,6 @@ use Rattle.model.specs.declared.net.Net.{Net as Shape}
 use Rattle.model.specs.declared.event.Event.{Event}
 use Rattle.model.specs.Event.{eventOf}
 use Rattle.model.specs.Net.{Net, State, Lawful}
-use Rattle.model.specs.Rules.{Outcome, answerOf}
 use Rattle.model.proofs.Forward.{apply-exact}
 use Rattle.model.proofs.Back.{back-exact}
 use Rattle.model.proofs.Refusals.{apply-refuses, back-refuses}
@@ -19,15 +18,12 @@ use Rattle.forms.specs.Frame.{Framed}
 use Rattle.forms.proofs.States.{state-lawful}
 use Rattle.forms.proofs.Written.{length-written, written-head, written-behind, bytes-written, read-written}
 use Rattle.forms.proofs.Frames.{written-framed}
-use Rattle.moves.specs.After.{applied, takenBack}
 use Rattle.moves.proofs.Undone.{apply-framed, back-framed, undone, redone}
 use Rattle.engine.specs.declared.answers.Verdict.{Verdict}
-use Rattle.engine.specs.Answers.{answered}
 use Rattle.engine.specs.Calls.{eventTold, eventLeft, backTold, backLeft}
-use Rattle.engine.specs.Demands.{LeavesState, EventDone}
-use Rattle.engine.specs.Demands.{EventBack}
+use Rattle.engine.specs.Demands.{LeavesState, EventDone, EventBack}
 use Rattle.engine.proofs.Courses.{is-done, on-done, is-refused, on-refused, on-none}
-use Rattle.engine.proofs.PastChecks.{fits-state, event-told, event-left, back-told, back-left}
+use Rattle.engine.proofs.PastChecks.{fits-state, event-comes, back-comes}
 
 module _ (net : List ℕ) (shape : Shape) (b : List ℕ) (f : Framed net shape b) (small : Bytes b) where
   abbrev N : Net
@@ -58,85 +54,63 @@ module _ (net : List ℕ) (shape : Shape) (b : List ℕ) (f : Framed net shape b
     abbrev e : Event
     e = eventOf first second
 
-    abbrev forth : Outcome
-    forth = applied net b e
-
-    abbrev back : Outcome
-    back = takenBack net b e
-
     pub event-done : EventDone net b first second
     event-done =
-        let r = eventTold net b first second in
-        let b′ = eventLeft net b first second in
-        let said = event-told net shape b f first second in
-        let wrote = event-left net shape b f first second in
+        let c = event-comes net shape b f first second in
         record {
           permitted = (
-            (λ z. let (S′, d) = is-done N b forth r b′ said wrote z in (S′, apply-exact N S e S′ .0 d)),
-            λ (S′, m). ap (λ (x : Verdict). x .number) (on-done N b forth r b′ said wrote S′ (apply-exact N S e S′ .1 m) .0),
+            (λ z. let (S′, d) = is-done c z in (S′, apply-exact N S e S′ .0 d)),
+            λ (S′, m). ap (λ (x : Verdict). x .number) (on-done c S′ (apply-exact N S e S′ .1 m) .0),
           );
           done = λ S′ m.
-              let (a, w) = on-done N b forth r b′ said wrote S′ (apply-exact N S e S′ .1 m) in
-              (a, leaves b′ S′ (moves-lawful e lawful m) w);
+              let (a, w) = on-done c S′ (apply-exact N S e S′ .1 m) in
+              (a, leaves (eventLeft net b first second) S′ (moves-lawful e lawful m) w);
           refused = λ why. (
-            (λ z. apply-refuses N S e why .0 (is-refused N b forth r b′ said wrote why z)),
-            λ h. on-refused N b forth r b′ said wrote why (apply-refuses N S e why .1 h),
+            (λ z. apply-refuses N S e why .0 (is-refused c why z)),
+            λ h. on-refused c why (apply-refuses N S e why .1 h),
           );
-          kept = on-none N b forth r b′ said wrote;
+          kept = on-none c;
         }
 
     event-undone : eventTold net b first second .number ≡ 0
         → (backTold net (eventLeft net b first second) first second .number ≡ 0)
         × (backLeft net (eventLeft net b first second) first second ≡ b)
     event-undone z =
-        let r = eventTold net b first second in
-        let b′ = eventLeft net b first second in
-        let said = event-told net shape b f first second in
-        let wrote = event-left net shape b f first second in
-        let (S′, d) = is-done N b forth r b′ said wrote z in
-        let g = apply-framed net shape b f small e S′ d in
+        let c = event-comes net shape b f first second in
+        let (S′, d) = is-done c z in
         let (t, same) = undone net shape b f small e S′ d in
-        let told = back-told net shape (written N S′ b) g first second ∙ ap (λ (x : Outcome). answered (answerOf x)) t in
-        rw (on-done N b forth r b′ said wrote S′ d .1)
-        (ap (λ (x : Verdict). x .number) told, back-left net shape (written N S′ b) g first second ∙ same)
+        let back = back-comes net shape (written N S′ b) (apply-framed net shape b f small e S′ d) first second in
+        rw (on-done c S′ d .1) (ap (λ (x : Verdict). x .number) (on-done back S t .0), back .wrote ∙ same)
 
     back-redone : backTold net b first second .number ≡ 0
         → (eventTold net (backLeft net b first second) first second .number ≡ 0)
         × (eventLeft net (backLeft net b first second) first second ≡ b)
     back-redone z =
-        let r = backTold net b first second in
-        let b′ = backLeft net b first second in
-        let said = back-told net shape b f first second in
-        let wrote = back-left net shape b f first second in
-        let (S₀, d) = is-done N b back r b′ said wrote z in
-        let g = back-framed net shape b f small e S₀ d in
+        let c = back-comes net shape b f first second in
+        let (S₀, d) = is-done c z in
         let (t, same) = redone net shape b f small e S₀ d in
-        let told = event-told net shape (written N S₀ b) g first second ∙ ap (λ (x : Outcome). answered (answerOf x)) t in
-        rw (on-done N b back r b′ said wrote S₀ d .1)
-        (ap (λ (x : Verdict). x .number) told, event-left net shape (written N S₀ b) g first second ∙ same)
+        let forth = event-comes net shape (written N S₀ b) (back-framed net shape b f small e S₀ d) first second in
+        rw (on-done c S₀ d .1) (ap (λ (x : Verdict). x .number) (on-done forth S t .0), forth .wrote ∙ same)
 
     pub event-back : EventBack net b first second
     event-back =
-        let r = backTold net b first second in
-        let b′ = backLeft net b first second in
-        let said = back-told net shape b f first second in
-        let wrote = back-left net shape b f first second in
+        let c = back-comes net shape b f first second in
         record {
           permitted = (
             (λ z.
-                let (S₀, d) = is-done N b back r b′ said wrote z in
+                let (S₀, d) = is-done c z in
                 let (s₀, m) = back-exact N S lawful e S₀ .0 d in
                 (S₀, s₀, m)),
-            λ (S₀, s₀, m). ap (λ (x : Verdict). x .number) (on-done N b back r b′ said wrote S₀ (back-exact N S lawful e S₀ .1 (s₀, m)) .0),
+            λ (S₀, s₀, m). ap (λ (x : Verdict). x .number) (on-done c S₀ (back-exact N S lawful e S₀ .1 (s₀, m)) .0),
           );
           done = λ S₀ s₀ m.
-              let (a, w) = on-done N b back r b′ said wrote S₀ (back-exact N S lawful e S₀ .1 (s₀, m)) in
-              (a, leaves b′ S₀ s₀ w);
+              let (a, w) = on-done c S₀ (back-exact N S lawful e S₀ .1 (s₀, m)) in
+              (a, leaves (backLeft net b first second) S₀ s₀ w);
           refused = λ why. (
-            (λ z. back-refuses N S lawful e why .0 (is-refused N b back r b′ said wrote why z)),
-            λ h. on-refused N b back r b′ said wrote why (back-refuses N S lawful e why .1 h),
+            (λ z. back-refuses N S lawful e why .0 (is-refused c why z)),
+            λ h. on-refused c why (back-refuses N S lawful e why .1 h),
           );
-          kept = on-none N b back r b′ said wrote;
+          kept = on-none c;
           undone = event-undone;
           redone = back-redone;
         }

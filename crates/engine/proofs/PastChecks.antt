@@ -6,7 +6,6 @@ use mathlib.Core.List.{List}
 use Prim.Native.Nat.{ℕ}
 use Rattle.model.specs.declared.net.Net.{Net as Shape}
 use Rattle.model.specs.Event.{eventOf}
-use Rattle.model.specs.Rules.{answerOf}
 use Rattle.forms.specs.Stored.{netOf, stored}
 use Rattle.forms.specs.Written.{written}
 use Rattle.forms.specs.States.{checkState}
@@ -16,20 +15,21 @@ use Rattle.forms.proofs.Nets.{net-exact}
 use Rattle.forms.proofs.States.{state-exact}
 use Rattle.forms.proofs.Logs.{log-exact}
 use Rattle.owed.specs.Reported.{reported}
-use Rattle.moves.specs.After.{applied, takenBack, after}
+use Rattle.moves.specs.After.{applied, takenBack}
 use Rattle.runs.specs.Runs.{ran, walked, toldOf}
 use Rattle.engine.specs.declared.examine.Examined.the-variants as examined
 use Rattle.engine.specs.Examined.{examineNet, examineState, examineLog}
-use Rattle.engine.specs.Answers.{answered, degreeOf, owedOf}
+use Rattle.engine.specs.Answers.{degreeOf, owedOf}
 use Rattle.engine.specs.Calls.{eventTold, eventLeft, backTold, backLeft}
 use Rattle.engine.specs.Calls.{degreeTold, owedTold, eventsPart, runTold, runLeft, walkTold, walkLeft}
-use Rattle.engine.proofs.Fits.{net-good, still-fit}
+use Rattle.engine.proofs.Fits.{net-fit, still-fit}
+use Rattle.engine.proofs.Courses.{ComesTo}
 
 -- BYTES IN THEIR FRAME ARE FOUND FIT
 
 module _ (net : List ℕ) (shape : Shape) (b : List ℕ) (f : Framed net shape b) where
   fits-net : examineNet net ≡ examined.Fit shape
-  fits-net = sym (net-good net shape (net-exact net .1 (f .net-framed .is-net)) (f .net-framed .has-shape))
+  fits-net = sym (net-fit net shape (net-exact net .1 (f .net-framed .is-net)) (f .net-framed .has-shape))
 
   pub fits-state : examineState net b ≡ examined.Fit shape
   unfolding examineState
@@ -43,21 +43,13 @@ module _ (net : List ℕ) (shape : Shape) (b : List ℕ) (f : Framed net shape b
 
 module _ (net : List ℕ) (shape : Shape) (b : List ℕ) (f : Framed net shape b) where
   module _ (first second : ℕ) where
-    pub event-told : eventTold net b first second ≡ answered (answerOf (applied net b (eventOf first second)))
-    unfolding eventTold
-    event-told = rw (fits-state net shape b f)
+    pub event-comes : ComesTo (netOf net) b (applied net b (eventOf first second)) (eventTold net b first second) (eventLeft net b first second)
+    unfolding eventTold eventLeft
+    event-comes = let s = fits-state net shape b f in record { said = rw s; wrote = rw s }
 
-    pub event-left : eventLeft net b first second ≡ after (netOf net) (applied net b (eventOf first second)) b
-    unfolding eventLeft
-    event-left = rw (fits-state net shape b f)
-
-    pub back-told : backTold net b first second ≡ answered (answerOf (takenBack net b (eventOf first second)))
-    unfolding backTold
-    back-told = rw (fits-state net shape b f)
-
-    pub back-left : backLeft net b first second ≡ after (netOf net) (takenBack net b (eventOf first second)) b
-    unfolding backLeft
-    back-left = rw (fits-state net shape b f)
+    pub back-comes : ComesTo (netOf net) b (takenBack net b (eventOf first second)) (backTold net b first second) (backLeft net b first second)
+    unfolding backTold backLeft
+    back-comes = let s = fits-state net shape b f in record { said = rw s; wrote = rw s }
 
   pub degree-told : (t : ℕ) → degreeTold net b t ≡ degreeOf (netOf net) (stored net b) t
   unfolding degreeTold

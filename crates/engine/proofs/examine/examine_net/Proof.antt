@@ -2,7 +2,7 @@
 -- Assumes nothing.
 use mathlib.Core.Path.{sym, _∙_}
 use Rattle.forms.proofs.Nets.{net-exact}
-use Rattle.engine.proofs.Fits.{net-good, net-bad}
+use Rattle.engine.proofs.Fits.{net-fit, net-unfit}
 use borrow.Author.Needs.{needs}
 use Rattle.engine.proofs.examine.examine_net.Statement.{statement}
 use Rattle.engine.proofs.examine.examine_net.Tie as tie
@@ -20,10 +20,10 @@ enum-known-fault : tie.Need-enum-known-fault
 enum-known-fault c = search needs
 
 returns : tie.Need-returns
-returns c = net-good _ _ (sym (c .before .before .before .check-net .ensures) ∙ c .before .enum-told .given .1) (c .shape-of .ensures)
+returns c = net-fit _ _ (sym (c .before .before .before .check-net .ensures) ∙ c .before .enum-told .given .1) (c .shape-of .ensures)
 
 returns-2 : tie.Need-returns-2
-returns-2 c = net-bad _ (sym (c .before .before .before .check-net .ensures) ∙ c .before .fault .given .1)
+returns-2 c = net-unfit _ (sym (c .before .before .before .check-net .ensures) ∙ c .before .fault .given .1)
 
 pub examine-net-spec : {M : Type 1} → statement M
 examine-net-spec =
