@@ -1,13 +1,15 @@
 -- Each public function's promise determines its answer and every byte of the buffer that is lent to it.
 -- Assumes nothing.
-use mathlib.Core.Path.{_≡_, sym, ap, _∙_}
-use mathlib.Core.List.{List}
+use mathlib.Core.Path.{_≡_, refl, sym, ap, _∙_}
+use mathlib.Core.List.{List, [], _∷_}
 use Prim.Native.Nat.{ℕ, _+_}
 use denote.Ref.{now}
+use lib.ListN.{length, set}
 use lib.Seq.{paste}
 use Rattle.model.proofs.Determined.{Determined, LeavesOne}
 use Rattle.io.specs.Digits.{digits}
-use Rattle.text.specs.Lines.{Spelt}
+use Rattle.text.specs.Lines.{space, lineEnd, Spelt, Fields, Line}
+use Rattle.text.specs.Lines.Fields.{none, more}
 use Rattle.text.proofs.Figures.{fewest-once}
 use Rattle.text.proofs.line.put_byte.Reads as put-byte
 use Rattle.text.proofs.line.put_byte.Kinds as put-byte-kinds
@@ -30,6 +32,36 @@ module _ (before : List ℕ) (at n : ℕ) (after after′ : List ℕ) (end end�
 
   pub spelt-stands : after ≡ after′
   spelt-stands = a .stands ∙ ap (λ (k : ℕ). paste before at (digits 10 k n) k) same ∙ sym (b .stands)
+
+-- and so are numbers one behind the other
+no-field : {b b′ : List ℕ} {at end : ℕ} → Fields b at [] b′ end → (b ≡ b′) × (at ≡ end)
+no-field none = (refl, refl)
+
+first-field : {b b′ : List ℕ} {at n end : ℕ} {ns : List ℕ} → Fields b at (n ∷ ns) b′ end
+    → (b₁ : List ℕ) × (at₁ : ℕ) × Spelt (set b at space) (at + 1) n b₁ at₁ × Fields b₁ at₁ ns b′ end
+first-field (more {b₁} {at₁} s f) = (b₁, at₁, s, f)
+
+pub fields-once : (ns before : List ℕ) (at : ℕ) (after after′ : List ℕ) (end end′ : ℕ) → Fields before at ns after end
+    → Fields before at ns after′ end′ → (after ≡ after′) × (end ≡ end′)
+fields-once [] before at after after′ end end′ f g =
+    let (p, q) = no-field f in
+    let (r, s) = no-field g in
+    (sym p ∙ r, sym q ∙ s)
+fields-once (n ∷ ns) before at after after′ end end′ f g =
+    let (b₁, at₁, s, rest) = first-field f in
+    let (b₂, at₂, s′, rest′) = first-field g in
+    let stands : b₂ ≡ b₁ = spelt-stands (set before at space) (at + 1) n b₂ b₁ at₂ at₁ s′ s in
+    let ends : at₂ ≡ at₁ = spelt-ends (set before at space) (at + 1) n b₂ b₁ at₂ at₁ s′ s in
+    fields-once ns b₁ at₁ after after′ end end′ rest (rw (stands, ends) at rest′)
+
+pub line-once : (before : List ℕ) (at : ℕ) (name ns after after′ : List ℕ) (end end′ : ℕ) → Line before at name ns after end
+    → Line before at name ns after′ end′ → (after ≡ after′) × (end ≡ end′)
+line-once before at name ns after after′ end end′ l m =
+    let (stands, ends) =
+    fields-once ns (paste before at name (length name)) (at + length name) (l .unended) (m .unended) (l .last) (m .last) (l .fields) (m .fields) in (
+      l .ended ∙ ap (λ (b : List ℕ). set b (l .last) lineEnd) stands ∙ ap (λ (k : ℕ). set (m .unended) k lineEnd) ends ∙ sym (m .ended),
+      l .ends ∙ ap (λ (k : ℕ). k + 1) ends ∙ sym (m .ends),
+    )
 
 pub put-byte-determined : Determined 1 put-byte-kinds.ps put-byte-kinds.r put-byte.Learnt
 put-byte-determined κs args x y s s′ p q = p .0 ∙ sym (q .0)
