@@ -3,7 +3,7 @@
 use mathlib.Core.Path.{_≡_, refl, sym, _∙_}
 use mathlib.Core.Bool.{Bool, false, true, cond, _&&_}
 use mathlib.Core.List.{List}
-use Prim.Native.Nat.{ℕ, _+_, _-_, _/_, _%_, _<_, _≤_}
+use Prim.Native.Nat.{ℕ, _-_, _/_, _%_, _<_, _≤_}
 use native.Mathlib.Omega.{arith}
 use lib.Dec.{leb}
 use lib.ListN.{length, take, drop, length-drop}
@@ -14,23 +14,14 @@ use Rattle.forms.specs.declared.fault.Fault.{Fault}
 use Rattle.forms.specs.declared.fault.Fault.the-variants as fault
 use Rattle.forms.specs.declared.fault.Checked.the-variants as checked
 use Rattle.forms.specs.Word.{word, word32}
-use Rattle.forms.specs.Places.{rowAt, logLength}
+use Rattle.forms.specs.Places.{logLength}
 use Rattle.forms.specs.Logs.{checkLog}
 use Rattle.forms.proofs.Logs.{log-faulty}
 use Rattle.engine.specs.declared.examine.Examined.{Examined}
 use Rattle.engine.specs.declared.examine.Examined.the-variants as examined
 use Rattle.engine.specs.Examined.{examineState, examineLog}
 use Rattle.engine.specs.Calls.{initialLeft, runTold, runLeft}
-use Rattle.replay.specs.Replayed.{longestNet, arrived?, netLengthIn, netIn, logIn, replayed, replayLeft}
-
--- the longest net, the longest log and a byte more
-abbrev pub enough : ℕ
-enough = longestNet + logLength eventLimit + 1
-
--- a number that a reader can compare with a buffer's length
-pub enough-is : enough ≡ 56461
-unfolding rowAt
-enough-is = refl
+use Rattle.replay.specs.Replayed.{longestNet, enough, arrived?, netLengthIn, netIn, logIn, replayed, replayLeft}
 
 -- HOW LONG THE NET MAY BE
 

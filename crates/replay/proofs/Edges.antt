@@ -29,6 +29,8 @@ unfolding rowAt word word32 arrived? netLengthIn standingAfter replayed replayLe
     no-start-owed? no-end-owed? nothing-running? timely? has-room? owes-start? owes-end? standingOf wordOf one owed
 edges = record {
   longest = refl;
+  read-enough = refl;
+  longest-state = refl;
   whole = refl;
   left = refl;
   tick-first = refl;

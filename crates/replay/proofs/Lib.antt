@@ -1,5 +1,9 @@
 pub mod Parts
 pub mod Shown
+pub mod Cells
+pub mod Marks
+pub mod Runs
 pub mod Edges
+pub mod LineEdges
 pub mod Determined
 pub mod CutOff

@@ -40,7 +40,8 @@ checked-early : (check : Checked) → eqb (numberOf check) 0 ≡ false → early
 checked-early checked.Good e = sym e
 checked-early (checked.Bad why) e = fault-early why
 
-not-both : {b : Bool} {A : Type 0} → b ≡ true → b ≡ false → A
+-- a test does not both pass and fail
+pub not-both : {b : Bool} {A : Type 0} → b ≡ true → b ≡ false → A
 not-both e f = let z : _≡_ {A = ℕ} 1 0 = ap (λ (x : Bool). cond x 1 0) (sym e ∙ f) in absurd (omega arith)
 
 -- a state written over one that can be shown

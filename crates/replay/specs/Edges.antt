@@ -1,12 +1,14 @@
--- What menurun tells of inputs that a reader can compare with document 01, and the bound of the longest net.
+-- What menurun tells of inputs that a reader can compare with document 01, the bounds of what is read, and lines byte by byte.
 -- Assumes nothing.
 use mathlib.Core.Path.{_≡_}
 use mathlib.Core.List.{List, [], _∷_, _++_}
 use Prim.Native.Nat.{ℕ}
 use lib.ListN.{take, set, replicate}
 use Rattle.forms.specs.Cases.{rowNet, rowState, rowLog}
+use Rattle.text.specs.Lines.{Line}
 use Rattle.replay.specs.declared.input.Replayed.{Replayed}
-use Rattle.replay.specs.Replayed.{longestNet, replayed, replayLeft}
+use Rattle.replay.specs.Replayed.{longestNet, enough, longestState, replayed, replayLeft}
+use Rattle.replay.specs.Lines.{resultName, resultFields, marksName, marksFields, cellsIn, nextRunning, RunLines}
 
 -- the first line that menurun prints, in its order
 abbrev pub result : ℕ → ℕ → ℕ → ℕ → ℕ → Replayed
@@ -31,6 +33,8 @@ atRest = (0x01 ∷ 0x00 ∷ 0x00 ∷ 0x00 ∷ 0x1E ∷ 0x03 ∷ 0x02 ∷ 0x04 �
 
 pub record Edges : Type 0 where
   pub longest : longestNet ≡ 8455
+  pub read-enough : enough ≡ 56461
+  pub longest-state : longestState ≡ 8328
   -- K1
   pub whole : replayed (rowNet ++ rowLog) (zeros 30) ≡ result 0 5 5 1 4
   pub left : replayLeft (rowNet ++ rowLog) (zeros 30) ≡ atRest
@@ -56,3 +60,36 @@ pub record Edges : Type 0 where
   pub as-long : replayed (set (set rowNet 3 0x21) 4 0x07 ++ replicate 8426 0) (zeros 30) ≡ refusedBy 3
   -- a net of no places, refused by 2 behind a whole frame
   pub no-places : replayed (set rowNet 5 0 ++ rowLog) (zeros 30) ≡ refusedBy 2
+
+-- LINES, IN ASCII
+
+-- result 13 7 2 1 3
+abbrev pub resultText : List ℕ
+resultText = 114 ∷ 101 ∷ 115 ∷ 117 ∷ 108 ∷ 116 ∷ 32 ∷ 49 ∷ 51 ∷ 32 ∷ 55 ∷ 32 ∷ 50 ∷ 32 ∷ 49 ∷ 32 ∷ 51 ∷ 10 ∷ []
+
+-- marks 0 0 1
+abbrev pub marksText : List ℕ
+marksText = 109 ∷ 97 ∷ 114 ∷ 107 ∷ 115 ∷ 32 ∷ 48 ∷ 32 ∷ 48 ∷ 32 ∷ 49 ∷ 10 ∷ []
+
+-- run 0 3 2
+abbrev pub olderText : List ℕ
+olderText = 114 ∷ 117 ∷ 110 ∷ 32 ∷ 48 ∷ 32 ∷ 51 ∷ 32 ∷ 50 ∷ 10 ∷ []
+
+-- run 1 0 300
+abbrev pub fresherText : List ℕ
+fresherText = 114 ∷ 117 ∷ 110 ∷ 32 ∷ 49 ∷ 32 ∷ 48 ∷ 32 ∷ 51 ∷ 48 ∷ 48 ∷ 10 ∷ []
+
+-- the document's initial state, with 2 firings of transition 0 of age 3, and 300 of transition 1 of age 0
+abbrev pub twoRunning : List ℕ
+twoRunning = set (set (set rowState 21 2) 22 1) 23 44
+
+pub record LineEdges : Type 0 where
+  -- each field of the result has its own place
+  pub result-line : Line (zeros 20) 0 resultName (resultFields (result 13 7 2 1 3)) (resultText ++ zeros 2) 18
+  pub marks-line : Line (zeros 14) 1 marksName (marksFields atRest) (0 ∷ marksText ++ zeros 1) 13
+  -- transition first, age second; and where the room ends, the cell to come
+  pub first-cell : nextRunning twoRunning 8 0 ≡ 3
+  pub second-cell : nextRunning twoRunning 8 4 ≡ 4
+  pub no-more-cells : nextRunning twoRunning 8 5 ≡ 8
+  pub two-lines : RunLines twoRunning (cellsIn twoRunning) (zeros 80) 0 3 (olderText ++ fresherText ++ zeros 58) 22 8
+  pub one-line : RunLines twoRunning (cellsIn twoRunning) (zeros 76) 0 3 (olderText ++ zeros 66) 10 4

@@ -1,2 +1,3 @@
 pub mod Replayed
+pub mod Lines
 pub mod Edges

@@ -2,12 +2,12 @@
 -- Assumes nothing.
 use mathlib.Core.Bool.{Bool, _&&_, cond}
 use mathlib.Core.List.{List}
-use Prim.Native.Nat.{ℕ, _≤_}
+use Prim.Native.Nat.{ℕ, _+_, _≤_}
 use lib.Dec.{eqb, leb}
 use lib.ListN.{length, take, drop}
-use Rattle.model.specs.Limits.{placeLimit, transitionLimit}
+use Rattle.model.specs.Limits.{placeLimit, transitionLimit, durationLimit, eventLimit}
 use Rattle.forms.specs.Word.{byte, word32}
-use Rattle.forms.specs.Places.{netLength, stateLength}
+use Rattle.forms.specs.Places.{netLength, stateLength, logLength}
 use Rattle.runs.specs.declared.told.Told.{Told}
 use Rattle.engine.specs.declared.answers.Verdict.{Verdict}
 use Rattle.engine.specs.Calls.{initialTold, initialLeft, runTold, runLeft, owedTold}
@@ -18,6 +18,14 @@ use Rattle.replay.specs.declared.input.Replayed.{Replayed}
 -- the longest lawful net
 abbrev pub longestNet : ℕ
 longestNet = netLength placeLimit transitionLimit
+
+-- a program may stop reading behind so many bytes: the longest net, the longest log and a byte more (`CutOff` proves it)
+abbrev pub enough : ℕ
+enough = longestNet + logLength eventLimit + 1
+
+-- the longest state
+abbrev pub longestState : ℕ
+longestState = stateLength placeLimit transitionLimit (durationLimit + 1)
 
 -- the length field is whole, at most the longest lawful net's, and as many bytes arrived
 unfoldable pub arrived? : List ℕ → Bool

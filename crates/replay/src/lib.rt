@@ -1,2 +1,4 @@
-// What the program menurun decides: where the net ends in its input, and what is told and left when the log behind it is run.
+// What the program menurun decides: where the net ends in its input, what is told and left when the log behind it is run, and every
+// byte of the lines that say so.
 pub mod input;
+pub mod lines;
