@@ -21,7 +21,9 @@ use Rattle.engine.specs.declared.examine.Examined.the-variants as examined
 use Rattle.engine.specs.Examined.{examineNet, examineLog}
 use Rattle.engine.specs.Calls.{initialTold, initialLeft, runTold, runLeft}
 use Rattle.engine.proofs.Fits.{log-fits}
+use Rattle.replay.specs.declared.input.Replayed.{Replayed}
 use Rattle.replay.specs.Replayed.{netIn, logIn, early?, begun?, replayed, replayLeft, Shown}
+use Rattle.replay.specs.Lines.{cellsShown, LateShown, Reads}
 
 -- 1 to 10 are early
 pub fault-early : (why : Fault) → early? (numberOfFault why) ≡ true
@@ -78,3 +80,17 @@ module _ (input state : List ℕ) where
 
   pub shown : early? (replayed input state .number) ≡ false → Shown (replayLeft input state)
   shown late = by-begun _ refl late
+
+-- what a program knows behind a replay
+pub late-shown : (input state : List ℕ) (r : Replayed) (left : List ℕ) → r ≡ replayed input state → left ≡ replayLeft input state
+    → LateShown (r .number) left
+late-shown input state r left told leaves late =
+    rw leaves (shown input state (ap (λ (x : Replayed). early? (x .number)) (sym told) ∙ late))
+
+-- the cells that are looked at can be read
+pub late-reads : (number : ℕ) (state : List ℕ) → LateShown number state → Reads state (cellsShown number state)
+late-reads number state is = by-test (early? number) refl
+  where
+    by-test : (x : Bool) → early? number ≡ x → Reads state (cellsShown number state)
+    by-test true e = rw e Reads.nothing
+    by-test false e = rw e (Reads.whole (is e))
