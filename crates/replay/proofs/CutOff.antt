@@ -1,27 +1,36 @@
--- How long the net may be, and that a program may stop reading: behind the longest net and the longest log nothing changes the answer.
+-- How long the net and the state may be, and that a program may stop reading: behind the longest net and the longest log nothing changes the
+-- answer.
 -- Assumes nothing.
 use mathlib.Core.Path.{_≡_, refl, sym, _∙_}
 use mathlib.Core.Bool.{Bool, false, true, cond, _&&_}
 use mathlib.Core.List.{List}
-use Prim.Native.Nat.{ℕ, _-_, _/_, _%_, _<_, _≤_}
+use Prim.Native.Nat.{ℕ, _*_, _-_, _/_, _%_, _<_, _≤_}
+use native.Mathlib.Nat.{mul-le-mul}
 use native.Mathlib.Omega.{arith}
 use lib.Dec.{leb}
 use lib.ListN.{length, take, drop, length-drop}
 use lib.Seq.{getD-take, take-take, length-take-le}
 use borrow.Author.Tests.{leb-true, le-leb}
-use Rattle.model.specs.Limits.{eventLimit}
+use Rattle.model.specs.Limits.{durationLimit, eventLimit}
+use Rattle.model.specs.Net.{width}
+use Rattle.model.proofs.Shape.{width-short}
 use Rattle.forms.specs.declared.fault.Fault.{Fault}
 use Rattle.forms.specs.declared.fault.Fault.the-variants as fault
 use Rattle.forms.specs.declared.fault.Checked.the-variants as checked
-use Rattle.forms.specs.Word.{word, word32}
-use Rattle.forms.specs.Places.{logLength}
+use Rattle.forms.specs.Word.{byte, word, word32}
+use Rattle.forms.specs.Places.{stateLength, logLength}
+use Rattle.forms.specs.Stored.{netOf}
+use Rattle.forms.specs.Nets.{IsNet}
+use Rattle.forms.specs.Written.{checkRoom}
 use Rattle.forms.specs.Logs.{checkLog}
 use Rattle.forms.proofs.Logs.{log-faulty}
+use Rattle.forms.proofs.Nets.{few-transitions, few-places}
+use Rattle.forms.proofs.Image.{room-exact}
 use Rattle.engine.specs.declared.examine.Examined.{Examined}
 use Rattle.engine.specs.declared.examine.Examined.the-variants as examined
 use Rattle.engine.specs.Examined.{examineState, examineLog}
 use Rattle.engine.specs.Calls.{initialLeft, runTold, runLeft}
-use Rattle.replay.specs.Replayed.{longestNet, enough, arrived?, netLengthIn, netIn, logIn, replayed, replayLeft}
+use Rattle.replay.specs.Replayed.{longestNet, enough, longestState, arrived?, netLengthIn, netIn, logIn, replayed, replayLeft}
 
 -- HOW LONG THE NET MAY BE
 
@@ -36,6 +45,15 @@ unfolding netLengthIn arrived?
 net-at-most input =
     at-most (leb 5 (length input)) (leb (word32 input 1) longestNet) (leb (word32 input 1) (length input)) (word32 input 1) longestNet
     (leb-true (word32 input 1) longestNet)
+
+-- ROOM FOR EVERY STATE
+
+pub every-state-fits : (net state : List ℕ) → IsNet net → longestState ≤ length state → checkRoom (netOf net) state ≡ checked.Good
+unfolding netOf stateLength
+every-state-fits net state n h =
+    let short : width (netOf net) ≤ 64 = width-short (netOf net) durationLimit (λ t l. n .rows t l .interval .1) in
+    let cells : byte net 6 * width (netOf net) ≤ 64 * 64 = mul-le-mul {n₂ = 64} {m₂ = 64} (few-transitions net n) short in
+    room-exact (netOf net) state .1 (omega (arith, h, cells, few-places net n))
 
 -- A LOG THAT IS TOO LONG
 

@@ -14,7 +14,7 @@ use Rattle.text.specs.Lines.Fields.{none, more}
 use Rattle.replay.specs.Lines.{runName, countOf, nextRunning}
 use Rattle.replay.specs.Lines.RunLines.{stop}
 use Rattle.replay.specs.Lines.RunLines.{more as further}
-use Rattle.replay.specs.Edges.{blank, olderText, fresherText, LineEdges}
+use Rattle.replay.specs.Edges.{zeros, olderText, fresherText, LineEdges}
 
 -- a number spelt with so many digits
 spell : (b : List ℕ) (at n k : ℕ) → Fewest 10 1 n k → Spelt b at n (paste b at (digits 10 k n) k) (at + k)
@@ -24,7 +24,7 @@ figure : (n : ℕ) → n < 10 → Fewest 10 1 n 1
 figure n h = (omega arith, omega arith, λ l. absurd (omega arith))
 
 -- the line of a count of one figure, at the front of a buffer
-older-line : (rest : List ℕ) → Line (blank 10 ++ rest) 0 runName (0 ∷ 3 ∷ 2 ∷ []) (olderText ++ rest) 10
+older-line : (rest : List ℕ) → Line (zeros 10 ++ rest) 0 runName (0 ∷ 3 ∷ 2 ∷ []) (olderText ++ rest) 10
 older-line rest = record {
   unended = _;
   last = 9;
@@ -65,8 +65,8 @@ line-edges = record {
   second-cell = refl;
   no-more-cells = refl;
   two-lines =
-      further {b₁ = olderText ++ blank 70} {at₁ = 10} refl (older-line (blank 70))
-      (further {b₁ = olderText ++ fresherText ++ blank 58} {at₁ = 22} refl
+      further {b₁ = olderText ++ zeros 70} {at₁ = 10} refl (older-line (zeros 70))
+      (further {b₁ = olderText ++ fresherText ++ zeros 58} {at₁ = 22} refl
       (record {
         unended = _;
         last = 21;
@@ -77,5 +77,5 @@ line-edges = record {
         ended = refl;
         ends = refl;
       }) (stop refl));
-  one-line = further {b₁ = olderText ++ blank 66} {at₁ = 10} refl (older-line (blank 66)) (stop refl);
+  one-line = further {b₁ = olderText ++ zeros 66} {at₁ = 10} refl (older-line (zeros 66)) (stop refl);
 }

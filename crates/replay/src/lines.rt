@@ -143,9 +143,10 @@ pub fn run(out: &mut [u8], at: usize, t: usize, age: Age, count: usize) -> usize
     ensures { λ r. ⌜ r ≤ at + runMost ⌝ }
     ensures { λ r. ⌜ Line (now (out .entry)) at runName (runFields t age count) (now (out .exit)) r ⌝ }
 {
+    let ticks = age.0 as u64;
     let name = line::put_bytes(out, at, b"run");
     let transition = line::put_field(out, name, t as u64);
-    let aged = line::put_field(out, transition, age.0 as u64);
+    let aged = line::put_field(out, transition, ticks);
     let counted = line::put_field(out, aged, count as u64);
     line::put_byte(out, counted, b'\n')
 }

@@ -8,6 +8,9 @@ use borrow.Author.Needs.{needs}
 use Rattle.replay.proofs.lines.run.Statement.{statement}
 use Rattle.replay.proofs.lines.run.Tie as tie
 
+cast-ticks : tie.Need-cast-ticks
+cast-ticks c = search needs
+
 slice-aggregate-put-bytes : tie.Need-slice-aggregate-put-bytes
 slice-aggregate-put-bytes c = search needs
 
@@ -16,9 +19,6 @@ put-bytes-requires c κs = search needs
 
 put-field-requires : tie.Need-put-field-requires
 put-field-requires c κs = search needs
-
-cast-put-field : tie.Need-cast-put-field
-cast-put-field c = search needs
 
 put-field-requires-2 : tie.Need-put-field-requires-2
 put-field-requires-2 c κs = search needs
@@ -35,8 +35,8 @@ same-length c = search needs
 returns : tie.Need-returns
 returns c =
     let a = c .before .before .before .before .before .before .before .before .before .before .before .before .before .before .before .before .before .before .before .before .before .before .before .args in
-    let name = c .before .before .before .before .before .before .before .before .before .before .before .before .before .before .before .before .before .before .before .put-bytes in
-    let one = c .before .before .before .before .before .before .before .before .before .before .before .before .before .before .before .put-field in
+    let name = c .before .before .before .before .before .before .before .before .before .before .before .before .before .before .before .before .before .before .put-bytes in
+    let one = c .before .before .before .before .before .before .before .before .before .before .before .before .before .before .put-field in
     let two = c .before .before .before .before .before .before .before .before .before .before .put-field2 in
     let three = c .before .before .before .before .before .before .put-field3 in
     let end = c .before .before .put-byte in (
@@ -49,10 +49,10 @@ pub run-spec : {M : Type 1} → statement M
 run-spec =
     tie.close
     (tie.spec
+    cast-ticks
     slice-aggregate-put-bytes
     put-bytes-requires
     put-field-requires
-    cast-put-field
     put-field-requires-2
     put-field-requires-3
     put-byte-requires
