@@ -9,7 +9,6 @@ use Rattle.model.specs.Tab.{tab, all, largest}
 use Rattle.model.specs.Net.{Accepted, width, tokens, count, build, initialState}
 use Rattle.model.specs.Cases.{childrensRow}
 use Rattle.model.proofs.Lawful.{initial-lawful}
-use Rattle.forms.specs.declared.fault.Checked.the-variants as checked
 use Rattle.forms.specs.Word.{word, word32}
 use Rattle.forms.specs.Places.{rowAt, netLength, stateLength, imageLength}
 use Rattle.forms.specs.Checked.{inTurn}
