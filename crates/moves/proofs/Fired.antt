@@ -34,7 +34,7 @@ use Rattle.forms.proofs.Inside.{mark-stands, known-model}
 use Rattle.moves.specs.Marking.{afterTaking, afterGiving}
 
 -- two cells of a matrix with d columns stand at one place only if they are one cell
-cell-once : (d t j u k : ℕ) → j < d → k < d → t * d + j ≡ u * d + k → (t ≡ u) × (j ≡ k)
+pub cell-once : (d t j u k : ℕ) → j < d → k < d → t * d + j ≡ u * d + k → (t ≡ u) × (j ≡ k)
 cell-once d t j u k l m e =
     below-or-past t u (λ h. absurd (omega (arith, mul-le-mul-right d h))) (λ g.
     below-or-past u t (λ h. absurd (omega (arith, mul-le-mul-right d h))) (λ h.

@@ -1,4 +1,5 @@
 pub mod Parts
+pub mod States
 pub mod Shown
 pub mod Cells
 pub mod Marks

@@ -23,7 +23,8 @@ use Rattle.engine.specs.Calls.{initialTold, initialLeft, runTold, runLeft}
 use Rattle.engine.proofs.Fits.{log-fits}
 use Rattle.replay.specs.declared.input.Replayed.{Replayed}
 use Rattle.replay.specs.Replayed.{netIn, logIn, early?, begun?, replayed, replayLeft, Shown}
-use Rattle.replay.specs.Lines.{cellsShown, LateShown, Reads}
+use Rattle.replay.specs.Lines.{ShowsState, cellsShown, LateShown, Reads}
+use Rattle.replay.proofs.States.{shows-state}
 
 -- 1 to 10 are early
 pub fault-early : (why : Fault) → early? (numberOfFault why) ≡ true
@@ -60,26 +61,39 @@ written-shown N S b h =
       ) (h .room);
     }
 
-module _ (net state log : List ℕ) where
-  ran-shown : (x : Examined) → examineLog net state log ≡ x → early? (runTold net state log .number) ≡ false → Shown (runLeft net state log)
-  unfolding runTold runLeft
-  ran-shown (examined.Fit s) e late = rw e (written-shown (netOf net) _ state (log-fits net s state log e .0 .is-state .head))
-  ran-shown (examined.Unfit why) e late = not-both (fault-early why) (rw e at late)
-
 module _ (net state : List ℕ) where
   initial-early : (x : Examined) → examineNet net ≡ x → begun? net state ≡ false → early? (initialTold net state .number) ≡ true
   unfolding initialTold
   initial-early (examined.Fit s) e stopped = rw e (checked-early (checkRoom (netOf net) state) (rw e at stopped))
   initial-early (examined.Unfit why) e stopped = rw e (fault-early why)
 
-module _ (input state : List ℕ) where
-  by-begun : (x : Bool) → begun? (netIn input) state ≡ x → early? (replayed input state .number) ≡ false → Shown (replayLeft input state)
-  unfolding replayed replayLeft
-  by-begun true e late = rw e (ran-shown (netIn input) (initialLeft (netIn input) state) (logIn input) _ refl (rw e at late))
-  by-begun false e late = not-both (initial-early (netIn input) state _ refl e) (rw e at late)
+-- what holds of every state written behind the head of one of the net holds where the number told is not early
+module _ (A : List ℕ → List ℕ → Type 0) (of-written : (net : List ℕ) (S : State) (b : List ℕ) → StateHead (netOf net) b → A net (written (netOf net) S b)) where
+  ran-late : (net state log : List ℕ) (x : Examined) → examineLog net state log ≡ x → early? (runTold net state log .number) ≡ false → A net (runLeft net state log)
+  unfolding runTold runLeft
+  ran-late net state log (examined.Fit s) e late = rw e (of-written net _ state (log-fits net s state log e .0 .is-state .head))
+  ran-late net state log (examined.Unfit why) e late = not-both (fault-early why) (rw e at late)
 
-  pub shown : early? (replayed input state .number) ≡ false → Shown (replayLeft input state)
-  shown late = by-begun _ refl late
+  module _ (input state : List ℕ) where
+    by-begun : (x : Bool) → begun? (netIn input) state ≡ x → early? (replayed input state .number) ≡ false → A (netIn input) (replayLeft input state)
+    unfolding replayed replayLeft
+    by-begun true e late = rw e (ran-late (netIn input) (initialLeft (netIn input) state) (logIn input) _ refl (rw e at late))
+    by-begun false e late = not-both (initial-early (netIn input) state _ refl e) (rw e at late)
+
+    late-holds : early? (replayed input state .number) ≡ false → A (netIn input) (replayLeft input state)
+    late-holds late = by-begun _ refl late
+
+pub shown : (input state : List ℕ) → early? (replayed input state .number) ≡ false → Shown (replayLeft input state)
+shown = late-holds (λ net b. Shown b) (λ net S b h. written-shown (netOf net) S b h)
+
+-- and what is shown is the state that the run left
+pub late-shows : (input state : List ℕ) → early? (replayed input state .number) ≡ false → ShowsState (netOf (netIn input)) (replayLeft input state)
+late-shows =
+    late-holds (λ net b. ShowsState (netOf net) b)
+    (λ net S b h.
+    let kept = written-head (netOf net) S b in
+    shows-state (netOf net) (written (netOf net) S b)
+    (kept 5 (omega arith) ∙ h .places-are) (kept 6 (omega arith) ∙ h .transitions-are) (kept 7 (omega arith) ∙ h .width-is))
 
 -- what a program knows behind a replay
 pub late-shown : (input state : List ℕ) (r : Replayed) (left : List ℕ) → r ≡ replayed input state → left ≡ replayLeft input state

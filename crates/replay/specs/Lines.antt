@@ -3,7 +3,7 @@
 use mathlib.Core.Path.{_≡_}
 use mathlib.Core.Bool.{Bool, true, false, cond, _&&_}
 use mathlib.Core.List.{List, [], _∷_}
-use Prim.Native.Nat.{ℕ, _+_, _*_, _/_, _%_}
+use Prim.Native.Nat.{ℕ, _+_, _*_, _/_, _%_, _<_}
 use lib.Dec.{leb, ltb}
 use lib.ListN.{length}
 use Rattle.model.specs.declared.age.Age.{Age}
@@ -11,8 +11,10 @@ use Rattle.model.specs.declared.net.Net.{Net as Shape}
 use Rattle.model.specs.Age.{columnOf}
 use Rattle.model.specs.Limits.{shapeOf}
 use Rattle.model.specs.Tab.{tab, lowest}
+use Rattle.model.specs.Net.{Net, width, tokens, count}
 use Rattle.forms.specs.Word.{byte, word}
 use Rattle.forms.specs.Places.{markAt, countAt}
+use Rattle.forms.specs.Stored.{stateOf}
 use Rattle.text.specs.Lines.{fieldMost, Line}
 use Rattle.replay.specs.declared.input.Replayed.{Replayed}
 use Rattle.replay.specs.Replayed.{early?, Shown}
@@ -86,6 +88,12 @@ runFields t age count = t ∷ age .0 ∷ count ∷ []
 
 abbrev pub cellFields : List ℕ → ℕ → List ℕ
 cellFields state cell = runFields (transitionOf state cell) (agedOf state cell) (countOf state cell)
+
+-- of a state's bytes these are its markings, place by place, and each of its counts with transition and age
+pub record ShowsState (N : Net) (b : List ℕ) : Type 0 where
+  pub marks-are : marksFields b ≡ tab (N .places) (tokens (stateOf N b))
+  pub cells-are : cellsIn b ≡ N .transitions * width N
+  pub fields-are : (t j : ℕ) → t < N .transitions → j < width N → cellFields b (t * width N + j) ≡ t ∷ j ∷ count (stateOf N b) t j ∷ []
 
 -- how many counts are looked at: for 1 to 10 none
 abbrev pub cellsShown : ℕ → List ℕ → ℕ
