@@ -1,0 +1,54 @@
+#include "sides.h"
+
+#include "baseline.h"
+#include "inplace.h"
+
+#include <stdio.h>
+#include <stdlib.h>
+#include <string.h>
+
+// The engine's C interface: the crate `menu`.
+void menu_run(const uint8_t *net, size_t net_len, uint8_t *state, size_t state_len, const uint8_t *log, size_t log_len,
+              uint64_t answer[4]);
+void menu_walk(const uint8_t *net, size_t net_len, uint8_t *state, size_t state_len, const uint8_t *log, size_t log_len, size_t n,
+               uint64_t answer[4]);
+
+const char *const side_names[] = {"engine", "baseline", "inplace", "nothing"};
+
+typedef void Run(const uint8_t *, size_t, uint8_t *, size_t, const uint8_t *, size_t, uint64_t[4]);
+typedef void Walk(const uint8_t *, size_t, uint8_t *, size_t, const uint8_t *, size_t, size_t, uint64_t[4]);
+
+void call(Side side, Call *c)
+{
+    static Run *const runs[] = {menu_run, baseline_run, inplace_run};
+    static Walk *const walks[] = {menu_walk, baseline_walk, inplace_walk};
+    if (side == NOTHING)
+        return;
+    if (c->walk)
+        walks[side](c->net, c->net_len, c->state, c->state_len, c->log, c->log_len, c->n, c->answer);
+    else
+        runs[side](c->net, c->net_len, c->state, c->state_len, c->log, c->log_len, c->answer);
+}
+
+void fail(const char *what, const char *name)
+{
+    fprintf(stderr, "bench: %s: %s\n", name, what);
+    exit(1);
+}
+
+void agree(const char *name, Call *c, const uint8_t *before, uint8_t *left)
+{
+    uint64_t told[4];
+    memcpy(c->state, before, c->state_len);
+    call(ENGINE, c);
+    memcpy(left, c->state, c->state_len);
+    memcpy(told, c->answer, sizeof told);
+    for (Side side = BASELINE; side < NOTHING; side++) {
+        memcpy(c->state, before, c->state_len);
+        call(side, c);
+        if (memcmp(told, c->answer, sizeof told) != 0)
+            fail("engine and C answer differently", name);
+        if (memcmp(left, c->state, c->state_len) != 0)
+            fail("engine and C leave different bytes", name);
+    }
+}
