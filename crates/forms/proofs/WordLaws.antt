@@ -70,7 +70,6 @@ setWord-comm s i v j w h =
     ∙ ap (λ (l : List ℕ). set (set l (j + 1) (w % 256)) (i + 1) (v % 256)) (set-comm s i j (v / 256) (w / 256) (λ e. omega arith))
     ∙ ap (λ (l : List ℕ). set l (i + 1) (v % 256)) (set-comm (set s j (w / 256)) i (j + 1) (v / 256) (w % 256) (λ e. omega arith))
 
--- two lists of bytes with one word in common there have its two bytes in common
 -- ---- a run of words
 
 module _ (base : ℕ) (f : ℕ → ℕ) (s : List ℕ) where
