@@ -204,12 +204,14 @@ pub record ToldPasses (net b : List ℕ) : Type 0 where
 pub record ToldFault (net b : List ℕ) : Type 0 where
   pub check-net : (why : Fault) → examineNet net ≡ examined.Unfit why → netTold net ≡ says (numberOfFault why) (indexOfFault why)
   pub check-state : (why : Fault) → examineState net b ≡ examined.Unfit why → stateTold net b ≡ says (numberOfFault why) (indexOfFault why)
-  pub initial : (why : Fault) → examineNet net ≡ examined.Unfit why → (initialTold net b ≡ says (numberOfFault why) (indexOfFault why)) × (initialLeft net b ≡ b)
+  pub initial : (why : Fault) → examineNet net ≡ examined.Unfit why
+      → (initialTold net b ≡ says (numberOfFault why) (indexOfFault why)) × (initialLeft net b ≡ b)
   pub event : (why : Fault) → examineState net b ≡ examined.Unfit why → (first second : ℕ)
       → (eventTold net b first second ≡ says (numberOfFault why) (indexOfFault why)) × (eventLeft net b first second ≡ b)
   pub back : (why : Fault) → examineState net b ≡ examined.Unfit why → (first second : ℕ)
       → (backTold net b first second ≡ says (numberOfFault why) (indexOfFault why)) × (backLeft net b first second ≡ b)
-  pub degree : (why : Fault) → examineState net b ≡ examined.Unfit why → (t : ℕ) → degreeTold net b t ≡ saysDegree (numberOfFault why) (indexOfFault why) 0
+  pub degree : (why : Fault) → examineState net b ≡ examined.Unfit why → (t : ℕ)
+      → degreeTold net b t ≡ saysDegree (numberOfFault why) (indexOfFault why) 0
   pub owed : (why : Fault) → examineState net b ≡ examined.Unfit why
       → owedTold net b ≡ saysOwed (numberOfFault why) (indexOfFault why) (setSays 0 0 0) (setSays 0 0 0) 0
   pub run : (log : List ℕ) (why : Fault) → examineLog net b log ≡ examined.Unfit why

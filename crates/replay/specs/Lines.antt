@@ -93,7 +93,8 @@ cellFields state cell = runFields (transitionOf state cell) (agedOf state cell) 
 pub record ShowsState (N : Net) (b : List ℕ) : Type 0 where
   pub marks-are : marksFields b ≡ tab (N .places) (tokens (stateOf N b))
   pub cells-are : cellsIn b ≡ N .transitions * width N
-  pub fields-are : (t j : ℕ) → t < N .transitions → j < width N → cellFields b (t * width N + j) ≡ t ∷ j ∷ count (stateOf N b) t j ∷ []
+  pub fields-are : (t j : ℕ) → t < N .transitions → j < width N
+      → cellFields b (t * width N + j) ≡ t ∷ j ∷ count (stateOf N b) t j ∷ []
 
 -- how many counts are looked at: for 1 to 10 none
 abbrev pub cellsShown : ℕ → List ℕ → ℕ
