@@ -2,8 +2,10 @@
 // every byte of the lines, is decided and proved in the crate replay. Here is only what reads and writes.
 use libc::STDIN_FILENO;
 use libc::STDOUT_FILENO;
-use replay::input;
 use replay::lines;
+use replay::lines::Filled;
+use replay::page;
+use replay::page::Page;
 ghost use Prim.Native.Nat.{_≤_};
 ghost use lib.ListN.{length};
 ghost use Rattle.replay.specs.Replayed.{enough, longestState};
@@ -15,12 +17,17 @@ const INPUT_MOST: usize = 56_461;
 // The longest state.
 const STATE_MOST: usize = 8_328;
 
-// Writes what stands in the buffer, and the lines of the counts behind it: a buffer at a time, since they may be longer than one.
-fn print(out: &mut [u8], at: usize, state: &[u8], cells: usize)
-    requires { ⌜ (at ≤ length (now out)) × (leastBuffer ≤ length (now out)) ⌝ }
-    requires { ⌜ Reads (now state) cells ⌝ }
+// Writes the first page, and the lines of the counts that are still to come: a buffer at a time, since by the bound of a line they might be
+// more than one has room for.
+fn print(out: &mut [u8], state: &[u8], page: Page)
+    requires { ⌜ (page .end ≤ length (now out)) × (leastBuffer ≤ length (now out)) ⌝ }
+    requires { ⌜ Reads (now state) (page .cells) ⌝ }
 {
-    let mut filled = lines::runs(out, at, state, cells, 0);
+    let cells = page.cells;
+    let mut filled = Filled {
+        end: page.end,
+        next: page.next,
+    };
     while filled.next < cells {
         let full = filled.end;
         io::write_all(STDOUT_FILENO, &out[..full]);
@@ -37,11 +44,8 @@ fn answer(arrived: &mut [u8], state: &mut [u8], out: &mut [u8])
     requires { ⌜ leastBuffer ≤ length (now out) ⌝ }
 {
     let n = io::read_full(STDIN_FILENO, arrived);
-    let told = input::replay(&arrived[..n], state);
-    let number = told.number;
-    let end = lines::opening(out, told, state);
-    let cells = lines::cells_shown(number, state);
-    print(out, end, state, cells);
+    let page = page::first(&arrived[..n], state, out);
+    print(out, state, page);
 }
 
 fn main() {

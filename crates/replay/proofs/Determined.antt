@@ -8,7 +8,8 @@ use Rattle.model.proofs.Determined.{Determined, LeavesOne}
 use Rattle.text.proofs.Determined.{line-once}
 use Rattle.replay.specs.declared.input.Replayed.{Replayed}
 use Rattle.replay.specs.declared.lines.Filled.{Filled}
-use Rattle.replay.specs.Lines.{resultName, resultFields, marksName, marksFields, runName, cellFields, nextRunning, Opens, RunLines}
+use Rattle.replay.specs.declared.page.Page.{Page}
+use Rattle.replay.specs.Lines.{resultName, resultFields, marksName, marksFields, runName, cellFields, nextRunning, cellsShown, Opens, RunLines, FirstPage}
 use Rattle.replay.specs.Lines.Opens.{alone, both}
 use Rattle.replay.specs.Lines.RunLines.{stop, more}
 use Rattle.replay.proofs.Shown.{not-both}
@@ -34,6 +35,8 @@ use Rattle.replay.proofs.lines.run_of.Reads as run-of
 use Rattle.replay.proofs.lines.run_of.Kinds as run-of-kinds
 use Rattle.replay.proofs.lines.runs.Reads as runs
 use Rattle.replay.proofs.lines.runs.Kinds as runs-kinds
+use Rattle.replay.proofs.page.first.Reads as first
+use Rattle.replay.proofs.page.first.Kinds as first-kinds
 
 pub net-length-determined : Determined 1 net-length-kinds.ps net-length-kinds.r net-length.Learnt
 net-length-determined κs args x y s s′ p q = p .0 ∙ sym (q .0)
@@ -116,3 +119,25 @@ runs-determined κs args x y s s′ p q =
 
 pub runs-leaves : LeavesOne 2 runs-kinds.ps runs-kinds.r runs.Learnt (λ κs s. now (s .0))
 runs-leaves κs args x y s s′ p q = runs-once _ _ _ _ _ (now (s .0)) (now (s′ .0)) (x .end) (y .end) (x .next) (y .next) (p .1) (q .1) .0
+
+-- the first page
+page-once : (before : List ℕ) (told : Replayed) (state after after′ : List ℕ) (end end′ next next′ : ℕ) → FirstPage before told state after end next
+    → FirstPage before told state after′ end′ next′ → (after ≡ after′) × (end ≡ end′) × (next ≡ next′)
+page-once before told state after after′ end end′ next next′ p q =
+    let cells = cellsShown (told .number) state in
+    let (stands, ends) = opens-once before told state (q .opened) (p .opened) (q .at) (p .at) (q .opens) (p .opens) in
+    runs-once state cells (p .opened) (p .at) (nextRunning state cells 0) after after′ end end′ next next′ (p .counts) (rw (stands, ends) at (q .counts))
+
+same-page : (x y : Page) → x .end ≡ y .end → x .next ≡ y .next → x .cells ≡ y .cells → x ≡ y
+same-page x y e n c = λ i. record { end = e i; next = n i; cells = c i }
+
+pub first-determined : Determined 3 first-kinds.ps first-kinds.r first.Learnt
+first-determined κs args x y s s′ p q =
+    let same = page-once _ _ _ (now (s .1 .1 .0)) (now (s′ .1 .1 .0)) (x .end) (y .end) (x .next) (y .next) (p .0) (q .0) in
+    same-page x y (same .1) (same .2) (p .1 .0 ∙ sym (q .1 .0))
+
+pub first-leaves : LeavesOne 3 first-kinds.ps first-kinds.r first.Learnt (λ κs s. now (s .1 .0))
+first-leaves κs args x y s s′ p q = p .1 .1 .0 ∙ sym (q .1 .1 .0)
+
+pub first-prints : LeavesOne 3 first-kinds.ps first-kinds.r first.Learnt (λ κs s. now (s .1 .1 .0))
+first-prints κs args x y s s′ p q = page-once _ _ _ (now (s .1 .1 .0)) (now (s′ .1 .1 .0)) (x .end) (y .end) (x .next) (y .next) (p .0) (q .0) .0

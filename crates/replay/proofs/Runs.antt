@@ -12,7 +12,8 @@ use Rattle.model.specs.Owed.{Lowest}
 use Rattle.model.proofs.Tab.{both-tell}
 use Rattle.model.proofs.Tests.{leb-tells, ltb-tells}
 use Rattle.model.proofs.Owed.{lowest-is}
-use Rattle.replay.specs.Lines.{runMost, countOf, nextRunning, goes-on?, RunLines}
+use Rattle.replay.specs.declared.input.Replayed.{Replayed}
+use Rattle.replay.specs.Lines.{Opens, FirstPage, cellsShown, runMost, countOf, nextRunning, goes-on?, RunLines}
 use Rattle.replay.specs.Lines.RunLines.{stop, more}
 use Rattle.replay.proofs.Shown.{not-both}
 
@@ -72,3 +73,11 @@ module _ (s : List ℕ) (cells : ℕ) where
       by-test : (x : Bool) → ltb (nextRunning s cells from) cells ≡ x → from < next
       by-test true e = omega (arith, next-bounds from (omega arith) .0, later lines (ltb-true (nextRunning s cells from) cells e) room)
       by-test false e = omega (arith, ltb-false (nextRunning s cells from) cells e, not-back lines)
+
+-- what is replayed, opened and put behind it is the first page
+pub first-page : (told′ told : Replayed) (state′ state before opened after : List ℕ) (at cells end next : ℕ) → told ≡ told′ → state ≡ state′
+    → cells ≡ cellsShown (told .number) state → Opens before told state opened at → RunLines state cells opened at (nextRunning state cells 0) after end next
+    → FirstPage before told′ state′ after end next × (cells ≡ cellsShown (told′ .number) state′)
+first-page told′ told state′ state before opened after at cells end next t s c o r =
+    let page : FirstPage before told state after end next = record { opened = opened; at = at; opens = o; counts = rw c at r } in
+    (rw (t, s) at page, rw (t, s) at c)

@@ -120,3 +120,10 @@ pub data RunLines (state : List ℕ) (cells : ℕ) : List ℕ → ℕ → ℕ �
 pub data Reads (state : List ℕ) : ℕ → Type 0 where
   nothing : Reads state 0
   whole : Shown state → Reads state (cellsIn state)
+
+-- the first buffer that is written: the opening, and behind it the lines of the counts as far as there is room
+pub record FirstPage (before : List ℕ) (told : Replayed) (state after : List ℕ) (end next : ℕ) : Type 0 where
+  pub opened : List ℕ
+  pub at : ℕ
+  pub opens : Opens before told state opened at
+  pub counts : RunLines state (cellsShown (told .number) state) opened at (nextRunning state (cellsShown (told .number) state) 0) after end next

@@ -2,3 +2,4 @@
 // byte of the lines that say so.
 pub mod input;
 pub mod lines;
+pub mod page;

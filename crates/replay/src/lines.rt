@@ -31,6 +31,7 @@ fn fields(out: &mut [u8], at: usize, told: Replayed) -> usize
     ensures { λ r. ⌜ r ≤ at + 5 * fieldMost ⌝ }
     ensures { λ r. ⌜ Fields (now (out .entry)) at (resultFields told) (now (out .exit)) r ⌝ }
 {
+    // each name is the place behind that field
     let number = line::put_field(out, at, told.number as u64);
     let index = line::put_field(out, number, told.index as u64);
     let done = line::put_field(out, index, told.done as u64);
