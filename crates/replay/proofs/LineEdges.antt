@@ -11,10 +11,11 @@ use Rattle.forms.specs.Word.{word}
 use Rattle.forms.specs.Places.{countAt}
 use Rattle.text.specs.Lines.{Spelt, Line}
 use Rattle.text.specs.Lines.Fields.{none, more}
-use Rattle.replay.specs.Lines.{runName, countOf, nextRunning}
+use Rattle.replay.specs.Lines.{resultName, resultFields, runName, countOf, nextRunning}
+use Rattle.replay.specs.Lines.Opens.{alone as early, both as late}
 use Rattle.replay.specs.Lines.RunLines.{stop}
 use Rattle.replay.specs.Lines.RunLines.{more as further}
-use Rattle.replay.specs.Edges.{zeros, olderText, fresherText, LineEdges}
+use Rattle.replay.specs.Edges.{result, zeros, resultText, olderText, fresherText, LineEdges}
 
 -- a number spelt with so many digits
 spell : (b : List ℕ) (at n k : ℕ) → Fewest 10 1 n k → Spelt b at n (paste b at (digits 10 k n) k) (at + k)
@@ -22,6 +23,21 @@ spell b at n k f = record { places = k; fewest = f; ends = refl; stands = refl }
 
 figure : (n : ℕ) → n < 10 → Fewest 10 1 n 1
 figure n h = (omega arith, omega arith, λ l. absurd (omega arith))
+
+-- the line of the result, at the front of a buffer
+result-at : (rest : List ℕ) → Line (zeros 18 ++ rest) 0 resultName (resultFields (result 13 7 2 1 3)) (resultText ++ rest) 18
+result-at rest = record {
+  unended = _;
+  last = 17;
+  fields =
+      more (spell _ _ 13 2 (omega arith, omega arith, λ l. omega arith))
+      (more (spell _ _ 7 1 (figure 7 (omega arith)))
+      (more (spell _ _ 2 1 (figure 2 (omega arith)))
+      (more (spell _ _ 1 1 (figure 1 (omega arith)))
+      (more (spell _ _ 3 1 (figure 3 (omega arith))) none))));
+  ended = refl;
+  ends = refl;
+}
 
 -- the line of a count of one figure, at the front of a buffer
 older-line : (rest : List ℕ) → Line (zeros 10 ++ rest) 0 runName (0 ∷ 3 ∷ 2 ∷ []) (olderText ++ rest) 10
@@ -39,18 +55,7 @@ older-line rest = record {
 pub line-edges : LineEdges
 unfolding word countAt countOf nextRunning lowest tab
 line-edges = record {
-  result-line = record {
-    unended = _;
-    last = 17;
-    fields =
-        more (spell _ _ 13 2 (omega arith, omega arith, λ l. omega arith))
-        (more (spell _ _ 7 1 (figure 7 (omega arith)))
-        (more (spell _ _ 2 1 (figure 2 (omega arith)))
-        (more (spell _ _ 1 1 (figure 1 (omega arith)))
-        (more (spell _ _ 3 1 (figure 3 (omega arith))) none))));
-    ended = refl;
-    ends = refl;
-  };
+  result-line = result-at (zeros 2);
   marks-line = record {
     unended = _;
     last = 12;
@@ -61,6 +66,34 @@ line-edges = record {
     ended = refl;
     ends = refl;
   };
+  alone =
+      early refl
+      (record {
+        unended = _;
+        last = 17;
+        fields =
+            more (spell _ _ 10 2 (omega arith, omega arith, λ l. omega arith))
+            (more (spell _ _ 0 1 (figure 0 (omega arith)))
+            (more (spell _ _ 0 1 (figure 0 (omega arith)))
+            (more (spell _ _ 0 1 (figure 0 (omega arith)))
+            (more (spell _ _ 0 1 (figure 0 (omega arith))) none))));
+        ended = refl;
+        ends = refl;
+      });
+  both =
+      late {between = resultText ++ zeros 16} {at = 18} refl (result-at (zeros 16))
+      (record {
+        unended = _;
+        last = 29;
+        fields =
+            more (spell _ _ 0 1 (figure 0 (omega arith)))
+            (more (spell _ _ 0 1 (figure 0 (omega arith)))
+            (more (spell _ _ 1 1 (figure 1 (omega arith))) none));
+        ended = refl;
+        ends = refl;
+      });
+  no-cells = refl;
+  all-cells = (refl, refl);
   first-cell = refl;
   second-cell = refl;
   no-more-cells = refl;

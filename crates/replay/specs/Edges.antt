@@ -8,7 +8,7 @@ use Rattle.forms.specs.Cases.{rowNet, rowState, rowLog}
 use Rattle.text.specs.Lines.{Line}
 use Rattle.replay.specs.declared.input.Replayed.{Replayed}
 use Rattle.replay.specs.Replayed.{longestNet, enough, longestState, replayed, replayLeft}
-use Rattle.replay.specs.Lines.{resultName, resultFields, marksName, marksFields, cellsIn, nextRunning, RunLines}
+use Rattle.replay.specs.Lines.{resultName, resultFields, marksName, marksFields, Opens, cellsIn, cellsShown, nextRunning, RunLines}
 
 -- the first line that menurun prints, in its order
 abbrev pub result : ℕ → ℕ → ℕ → ℕ → ℕ → Replayed
@@ -67,6 +67,10 @@ pub record Edges : Type 0 where
 abbrev pub resultText : List ℕ
 resultText = 114 ∷ 101 ∷ 115 ∷ 117 ∷ 108 ∷ 116 ∷ 32 ∷ 49 ∷ 51 ∷ 32 ∷ 55 ∷ 32 ∷ 50 ∷ 32 ∷ 49 ∷ 32 ∷ 51 ∷ 10 ∷ []
 
+-- result 10 0 0 0 0
+abbrev pub earlyText : List ℕ
+earlyText = 114 ∷ 101 ∷ 115 ∷ 117 ∷ 108 ∷ 116 ∷ 32 ∷ 49 ∷ 48 ∷ 32 ∷ 48 ∷ 32 ∷ 48 ∷ 32 ∷ 48 ∷ 32 ∷ 48 ∷ 10 ∷ []
+
 -- marks 0 0 1
 abbrev pub marksText : List ℕ
 marksText = 109 ∷ 97 ∷ 114 ∷ 107 ∷ 115 ∷ 32 ∷ 48 ∷ 32 ∷ 48 ∷ 32 ∷ 49 ∷ 10 ∷ []
@@ -87,6 +91,11 @@ pub record LineEdges : Type 0 where
   -- each field of the result has its own place
   pub result-line : Line (zeros 20) 0 resultName (resultFields (result 13 7 2 1 3)) (resultText ++ zeros 2) 18
   pub marks-line : Line (zeros 14) 1 marksName (marksFields atRest) (0 ∷ marksText ++ zeros 1) 13
+  -- for 10 only the first line, and no count is looked at; else the markings too, and every count
+  pub alone : Opens (zeros 20) (refusedBy 10) rowState (earlyText ++ zeros 2) 18
+  pub both : Opens (zeros 34) (result 13 7 2 1 3) atRest (resultText ++ marksText ++ zeros 4) 30
+  pub no-cells : cellsShown 10 twoRunning ≡ 0
+  pub all-cells : (cellsShown 0 twoRunning ≡ 8) × (cellsShown 11 twoRunning ≡ 8)
   -- transition first, age second; and where the room ends, the cell to come
   pub first-cell : nextRunning twoRunning 8 0 ≡ 3
   pub second-cell : nextRunning twoRunning 8 4 ≡ 4
