@@ -6,7 +6,8 @@ use Prim.Native.Nat.{ℕ, _+_, _*_, _/_, _%_, _<_}
 use native.Mathlib.Numerals.{add-one}
 use lib.ListN.{length, getD, set}
 use lib.Seq.{paste, paste-suc}
-use Rattle.text.specs.Lines.{hexed, glyph, lineEnd, Fields, Line}
+use Rattle.io.specs.Digits.{glyph}
+use Rattle.text.specs.Lines.{hexed, lineEnd, Fields, Line}
 
 pub hexed-begin : (before : List ℕ) (at : ℕ) (bytes : List ℕ) → before ≡ hexed before at bytes 0
 unfolding hexed

@@ -5,8 +5,7 @@ use mathlib.Core.List.{List, [], _∷_}
 use Prim.Native.Nat.{ℕ, zero, suc, _+_, _*_, _/_, _%_}
 use lib.ListN.{length, getD, set}
 use lib.Seq.{paste}
-use Rattle.io.specs.Digits.{digits, Fewest}
-use Rattle.io.specs.Digits.{glyph as digitGlyph}
+use Rattle.io.specs.Digits.{glyph, digits, Fewest}
 
 -- a number of 64 bits has at most so many digits in decimal
 abbrev pub digitsMost : ℕ
@@ -23,10 +22,6 @@ space = 32
 -- the byte at the end of a line
 abbrev pub lineEnd : ℕ
 lineEnd = 10
-
--- the hex digit of a number below 16, in lower case
-abbrev pub glyph : ℕ → ℕ
-glyph n = digitGlyph n
 
 -- n stands in decimal from `at` to `end`, with as few digits as hold it and at least one; all else is as before
 pub record Spelt (before : List ℕ) (at n : ℕ) (after : List ℕ) (end : ℕ) : Type 0 where

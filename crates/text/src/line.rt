@@ -4,7 +4,8 @@ ghost use mathlib.Core.Path.{_≡_};
 ghost use Prim.Native.Nat.{_+_, _*_, _<_, _≤_};
 ghost use lib.ListN.{length, set};
 ghost use lib.Seq.{paste};
-ghost use Rattle.text.specs.Lines.{digitsMost, fieldMost, space, Spelt, hexed, glyph};
+ghost use Rattle.io.specs.Digits.{glyph};
+ghost use Rattle.text.specs.Lines.{digitsMost, fieldMost, space, Spelt, hexed};
 
 // A number of 64 bits has at most so many digits in decimal.
 pub const DIGITS_MOST: usize = 20;
