@@ -1,4 +1,4 @@
--- The whole image of a state at the front of a buffer: it is accepted as a state and reads as that state; the bytes behind it stay.
+-- The whole image of a state at the front of a buffer: it is accepted as a state and reads as that state.
 -- And the image of the initial state, as the code writes it.
 -- Assumes nothing.
 use mathlib.Core.Path.{_≡_, refl, sym, ap, _∙_}
@@ -28,7 +28,7 @@ use Rattle.forms.proofs.WordLaws.{length-setWord, length-setWord32, byt
 use Rattle.forms.proofs.Runs.{putRows-flat}
 use Rattle.forms.proofs.Stored.{count-place}
 use Rattle.forms.proofs.Turns.{never, unless-good, fails, fault-by}
-use Rattle.forms.proofs.Written.{length-written, written-head, written-behind, word-counts, read-written}
+use Rattle.forms.proofs.Written.{length-written, written-head, word-counts, read-written}
 
 -- THE HEAD
 
@@ -89,15 +89,6 @@ module _ (P T D : ℕ) (b : List ℕ) (room : 8 ≤ length b) where
       other32 fields (stateLength P T D) 7 (λ h l. omega arith)
       ∙ getD-set-same (set (set (set b 0 1) 5 P) 6 T) 7 D 0 (simp length-set (omega arith))
 
-  head-behind : (i : ℕ) → 8 ≤ i → byte (headed P T D b) i ≡ byte b i
-  unfolding headed
-  head-behind i h =
-      other32 fields (stateLength P T D) i (λ m l. omega arith)
-      ∙ getD-set-other (set (set (set b 0 1) 5 P) 6 T) 7 i D 0 (λ e. omega arith)
-      ∙ getD-set-other (set (set b 0 1) 5 P) 6 i T 0 (λ e. omega arith)
-      ∙ getD-set-other (set b 0 1) 5 i P 0 (λ e. omega arith)
-      ∙ getD-set-other b 0 i 1 0 (λ e. omega arith)
-
 -- two lists that agree on the head agree on the length that stands there
 pub head-word : (x y : List ℕ) → ((i : ℕ) → i < 8 → byte x i ≡ byte y i) → word32 x 1 ≡ word32 y 1
 unfolding word32 word
@@ -120,11 +111,6 @@ module _ (N : Net) (S : State) (b : List ℕ) (room : imageLength N ≤ length b
   pub length-image : length (image N S b) ≡ length b
   unfolding image
   length-image = length-written N S front ∙ length-headed (N .places) (N .transitions) (width N) b eight
-
-  -- the bytes behind the image stay
-  pub image-behind : (i : ℕ) → imageLength N ≤ i → byte (image N S b) i ≡ byte b i
-  unfolding image stateLength
-  image-behind i h = written-behind N S front i h ∙ head-behind (N .places) (N .transitions) (width N) b eight i (omega arith)
 
   -- it reads as the state
   pub image-reads : Lawful N S → stateOf N (image N S b) ≡ S
@@ -222,7 +208,3 @@ room-faulty N b = (
   where
     short : (m n : ℕ) → ¬ (m ≤ n) → n < m
     short m n f = omega arith
-
-pub no-room-kept : (N : Net) (b : List ℕ) → length b < imageLength N → afterInitial N b ≡ b
-unfolding afterInitial
-no-room-kept N b h = rw (lt-leb (imageLength N) (length b) h)

@@ -51,14 +51,6 @@ module _ (N : Net) (S : State) (b : List ℕ) where
       ∙ putRows-putRows clock (width N) (count S) (count S′) (putWords 8 (N .places) (tokens S) before) (N .transitions)
       ∙ ap rows (putWords-putWords 8 (tokens S) (tokens S′) b (N .places))
 
-  -- only what the net has of S is written
-  pub written-cong : (S′ : State) → ((p : ℕ) → p < N .places → tokens S p ≡ tokens S′ p)
-      → ((t j : ℕ) → t < N .transitions → j < width N → count S t j ≡ count S′ t j) → written N S b ≡ written N S′ b
-  unfolding written
-  written-cong S′ ms hs =
-      putRows-cong clock (width N) (count S) (count S′) marked (N .transitions) hs
-      ∙ ap (putRows clock (width N) (N .transitions) (count S′)) (putWords-cong 8 (tokens S) (tokens S′) b (N .places) ms)
-
   pub bytes-written : Bytes b → Lawful N S → imageLength N ≤ length b → Bytes (written N S b)
   unfolding written stateLength
   bytes-written small w size =
