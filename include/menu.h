@@ -7,8 +7,8 @@
  *
  * STORED FORMS. All numbers are big-endian. Each form begins with a version byte, 1, and the length of the whole form in 4 bytes.
  *
- *   net    version, length, P (1 byte), T (1 byte); P initial markings of 2 bytes; then for each transition sfd, lfd, P input
- *          weights and P output weights, 1 byte each. 7 + 2P + T(2 + 2P) bytes.
+ *   net    version, length, P (1 byte), T (1 byte); P initial markings of 2 bytes; then for each transition its shortest and its
+ *          longest firing duration, sfd and lfd, P input weights and P output weights, 1 byte each. 7 + 2P + T(2 + 2P) bytes.
  *   state  version, length, P, T, D (1 byte each); P markings of 2 bytes; for each transition, D counts of 2 bytes, by age.
  *          D is the largest lfd plus 1. 8 + 2P + 2TD bytes. So P, T and D are bytes 5, 6 and 7, the marking of place p stands at
  *          byte 8 + 2p, and the count of transition t's firings at an age at byte 8 + 2P + 2(tD + age).
@@ -17,6 +17,9 @@
  *
  * P, the places, and T, the transitions, are 1 to 64 and numbered from 0. A firing of a transition lasts sfd to lfd ticks. A tick
  * is the net designer's unit of time: the library knows no clock.
+ *
+ * A state is lawful for a net when its version, length, P, T and D fit and every count at an age above the transition's own lfd is
+ * 0. Markings and counts may be anything from 0 to 65,535, and no run of the net need lead to the state.
  *
  * EVENTS. A transition is enabled where every place holds at least its input weight. A start takes the input weights from the
  * marking and begins a firing, of age 0. An end takes away one firing of its transition and age, and the output weights join the
@@ -44,7 +47,8 @@
  * - Refused by 1 to 10 or 22: every byte as it was.
  * - Refused by another number: the state that stood when the refused event had its turn, to be done or to be taken back.
  *
- * In a refused answer all fields but number and index are 0. A run or a walk that stopped at an event tells how far it came.
+ * In a refused answer all fields are 0, except `number`, `index` where it is a transition (4, 5, 6, 9) or the event that a run or a
+ * walk stopped at, and, of a run or a walk that stopped at an event, `done` and `ticks`, which tell how far it came.
  *
  * A long log may be run in portions, each a log with its own head, run from the state that the one before left, until one is
  * refused. That ends as a run of the whole does; but each portion's answer counts from its own front.
