@@ -52,7 +52,7 @@ module _ (net b : List ℕ) (shape : Shape) (e : examineNet net ≡ examined.Fit
   unfolding checkRoom afterInitial
   narrow h = rw (lt-leb (imageLength (netOf net)) (length b) h) (refl, refl)
 
-pub initial-given : (net b : List ℕ) → Bytes net → Passes (examineNet net) → InitialGiven net b
+pub initial-given : (net b : List ℕ) → Bytes net → Passes (examineNet net) → InitialGiven net b (initialTold net b) (initialLeft net b)
 initial-given net b bytes (shape, e) =
     let n = net-fits net shape e in
     let told = initial-told net b shape e in

@@ -82,53 +82,53 @@ pub examine-log-determined : Determined 3 examine-log-kinds.ps examine-log-kinds
 examine-log-determined κs args x y s s′ p q = p ∙ sym q
 
 pub check-net-determined : Determined 1 check-net-kinds.ps check-net-kinds.r check-net.Learnt
-check-net-determined κs args x y s s′ p q = p ∙ sym q
+check-net-determined κs args x y s s′ p q = p .0 ∙ sym (q .0)
 
 pub check-state-determined : Determined 2 check-state-kinds.ps check-state-kinds.r check-state.Learnt
-check-state-determined κs args x y s s′ p q = p ∙ sym q
+check-state-determined κs args x y s s′ p q = p .0 ∙ sym (q .0)
 
 pub initial-determined : Determined 2 initial-kinds.ps initial-kinds.r initial.Learnt
 initial-determined κs args x y s s′ p q = p .0 ∙ sym (q .0)
 
 pub initial-leaves : LeavesOne 2 initial-kinds.ps initial-kinds.r initial.Learnt (λ κs s. now (s .1 .0))
-initial-leaves κs args x y s s′ p q = p .1 ∙ sym (q .1)
+initial-leaves κs args x y s s′ p q = p .1 .0 ∙ sym (q .1 .0)
 
 pub event-determined : Determined 2 event-kinds.ps event-kinds.r event.Learnt
 event-determined κs args x y s s′ p q = p .0 ∙ sym (q .0)
 
 pub event-leaves : LeavesOne 2 event-kinds.ps event-kinds.r event.Learnt (λ κs s. now (s .1 .0))
-event-leaves κs args x y s s′ p q = p .1 ∙ sym (q .1)
+event-leaves κs args x y s s′ p q = p .1 .0 ∙ sym (q .1 .0)
 
 pub back-determined : Determined 2 back-kinds.ps back-kinds.r back.Learnt
 back-determined κs args x y s s′ p q = p .0 ∙ sym (q .0)
 
 pub back-leaves : LeavesOne 2 back-kinds.ps back-kinds.r back.Learnt (λ κs s. now (s .1 .0))
-back-leaves κs args x y s s′ p q = p .1 ∙ sym (q .1)
+back-leaves κs args x y s s′ p q = p .1 .0 ∙ sym (q .1 .0)
 
 pub degree-determined : Determined 2 degree-kinds.ps degree-kinds.r degree.Learnt
-degree-determined κs args x y s s′ p q = p ∙ sym q
+degree-determined κs args x y s s′ p q = p .0 ∙ sym (q .0)
 
 pub owed-determined : Determined 2 owed-kinds.ps owed-kinds.r owed.Learnt
-owed-determined κs args x y s s′ p q = p ∙ sym q
+owed-determined κs args x y s s′ p q = p .0 ∙ sym (q .0)
 
 pub run-determined : Determined 3 run-kinds.ps run-kinds.r run.Learnt
 run-determined κs args x y s s′ p q = p .0 ∙ sym (q .0)
 
 pub run-leaves : LeavesOne 3 run-kinds.ps run-kinds.r run.Learnt (λ κs s. now (s .1 .0))
-run-leaves κs args x y s s′ p q = p .1 ∙ sym (q .1)
+run-leaves κs args x y s s′ p q = p .1 .0 ∙ sym (q .1 .0)
 
 pub walk-determined : Determined 3 walk-kinds.ps walk-kinds.r walk.Learnt
 walk-determined κs args x y s s′ p q = p .0 ∙ sym (q .0)
 
 pub walk-leaves : LeavesOne 3 walk-kinds.ps walk-kinds.r walk.Learnt (λ κs s. now (s .1 .0))
-walk-leaves κs args x y s s′ p q = p .1 ∙ sym (q .1)
+walk-leaves κs args x y s s′ p q = p .1 .0 ∙ sym (q .1 .0)
 
 pub step-told-determined : Determined 1 step-told-kinds.ps step-told-kinds.r step-told.Learnt
-step-told-determined κs args x y s s′ p q = p ∙ sym q
+step-told-determined κs args x y s s′ p q = p .0 ∙ sym (q .0)
 
 -- two parts that the promise of `step` permits hold the same bytes and stand at the same place
 pub step-determined : (κs : Lfts 1) (args : Dens κs step-kinds.ps) (x y : resT step-kinds.r κs .Denot)
     (s s′ : AtExit (endedOf 1 step-kinds.ps step-kinds.r) κs) → step.Learnt κs args x s → step.Learnt κs args y s′
     → (now x ≡ now y) × (ptr x ≡ ptr y)
 step-determined κs args x y s s′ p q =
-    (p .bytes ∙ sym (q .bytes), λ i. ((p .block ∙ sym (q .block)) i, (p .place ∙ sym (q .place)) i))
+    (p .0 .bytes ∙ sym (q .0 .bytes), λ i. ((p .0 .block ∙ sym (q .0 .block)) i, (p .0 .place ∙ sym (q .0 .place)) i))

@@ -47,7 +47,7 @@ only : (b : Bool) (why : Fault) → unless b fault.LogFrame checked.Good ≡ che
 only true why e = let z : _≡_ {A = ℕ} 0 1 = cc in absurd (omega arith)
 only false why e = cc
 
-log-only : (log : List ℕ) (why : Fault) → checkLog log ≡ checked.Bad why → fault.LogFrame ≡ why
+pub log-only : (log : List ℕ) (why : Fault) → checkLog log ≡ checked.Bad why → fault.LogFrame ≡ why
 unfolding checkLog
 log-only log why e = only (is-log? log) why e
 

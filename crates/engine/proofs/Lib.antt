@@ -10,4 +10,5 @@ pub mod Checks
 pub mod Faults
 pub mod PartGiven
 pub mod OnBytes
+pub mod Promised
 pub mod Determined

@@ -54,7 +54,7 @@ module _ (net : List ℕ) (shape : Shape) (b : List ℕ) (f : Framed net shape b
     abbrev e : Event
     e = eventOf first second
 
-    pub event-done : EventDone net b first second
+    pub event-done : EventDone net b first second (eventTold net b first second) (eventLeft net b first second)
     event-done =
         let c = event-comes net shape b f first second in
         record {
@@ -92,7 +92,7 @@ module _ (net : List ℕ) (shape : Shape) (b : List ℕ) (f : Framed net shape b
         let forth = event-comes net shape (written N S₀ b) (back-framed net shape b f small e S₀ d) first second in
         rw (on-done c S₀ d .1) (ap (λ (x : Verdict). x .number) (on-done forth S t .0), forth .wrote ∙ same)
 
-    pub event-back : EventBack net b first second
+    pub event-back : EventBack net b first second (backTold net b first second) (backLeft net b first second)
     event-back =
         let c = back-comes net shape b f first second in
         record {

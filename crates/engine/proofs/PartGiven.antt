@@ -29,8 +29,8 @@ module _ (log part : RefT (List ℕ)) (k : ℕ) (is : PartOf log part (stepTold 
   part-given = record {
     block-is = is .block;
     step-is = λ good h.
-        let at = steps-of (now log) good .each k h in
+        let at = steps-of (now log) good .each k .known h in
         (is .bytes ∙ ap told-part (at .told) ∙ at .stands-there, is .place ∙ ap (λ t. t .start + ptr log .1) (at .told));
-    no-step = λ good h. empty 23 (steps-of (now log) good .no-more k h);
+    no-step = λ good h. empty 23 (steps-of (now log) good .each k .no-more h);
     no-log = λ why bad. empty _ (told-fault [] [] .step (now log) why bad k);
   }

@@ -1,6 +1,6 @@
 -- Demands 2 and 3 on bytes: what the calls tell and leave of a net, a state and a log that got past the checks, in the words of the
--- model's relations; and that a call refused before its first event tells the fault and writes nothing. The contracts in src/calls.rt
--- have the left sides.
+-- model's relations; and that a call refused before its first event tells the fault and writes nothing. In the record of one call r is
+-- what it tells, and b′ what it leaves of the buffer b: the contracts in src/calls.rt promise it of the very answer and buffer.
 -- Assumes nothing.
 use mathlib.Core.Path.{_≡_}
 use mathlib.Core.Logic.{_↔_}
@@ -30,6 +30,9 @@ use Rattle.forms.specs.Logs.{checkLog}
 use Rattle.forms.specs.Frame.{Began}
 use Rattle.owed.specs.Bits.{bitAt}
 use Rattle.runs.specs.declared.told.Told.{Told}
+use Rattle.engine.specs.declared.answers.Verdict.{Verdict}
+use Rattle.engine.specs.declared.answers.DegreeTold.{DegreeTold}
+use Rattle.engine.specs.declared.answers.OwedTold.{OwedTold}
 use Rattle.engine.specs.declared.examine.Examined.{Examined}
 use Rattle.engine.specs.declared.examine.Examined.the-variants as examined
 use Rattle.engine.specs.Examined.{examineNet, examineState, examineLog}
@@ -59,30 +62,27 @@ pub record LeavesState (net b b′ : List ℕ) (S : State) : Type 0 where
 -- DEMAND 2
 
 -- an event, given by its two bytes, done in the state that stands in b
-pub record EventDone (net b : List ℕ) (first second : ℕ) : Type 0 where
+pub record EventDone (net b : List ℕ) (first second : ℕ) (r : Verdict) (b′ : List ℕ) : Type 0 where
   -- it is accepted exactly when the rules permit it
-  pub permitted : (eventTold net b first second .number ≡ 0)
-      ↔ ((S′ : State) × Moves (netOf net) (stored net b) (eventOf first second) S′)
+  pub permitted : (r .number ≡ 0) ↔ ((S′ : State) × Moves (netOf net) (stored net b) (eventOf first second) S′)
   -- and the state that the rules give is left
   pub done : (S′ : State) → Moves (netOf net) (stored net b) (eventOf first second) S′
-      → (eventTold net b first second ≡ says 0 0) × LeavesState net b (eventLeft net b first second) S′
+      → (r ≡ says 0 0) × LeavesState net b b′ S′
   -- each refusal is told exactly when document 01 says
-  pub refused : (why : Refusal) → (eventTold net b first second ≡ says (numberOfRefusal why) 0)
-      ↔ Refuses (netOf net) (stored net b) (eventOf first second) why
+  pub refused : (why : Refusal) → (r ≡ says (numberOfRefusal why) 0) ↔ Refuses (netOf net) (stored net b) (eventOf first second) why
   -- and a refused event changes no byte
-  pub kept : ¬ (eventTold net b first second .number ≡ 0) → eventLeft net b first second ≡ b
+  pub kept : ¬ (r .number ≡ 0) → b′ ≡ b
 
 -- a log, run from the state that stands in b
-pub record LogRun (net b log : List ℕ) : Type 0 where
+pub record LogRun (net b log : List ℕ) (r : Told) (b′ : List ℕ) : Type 0 where
   -- it is accepted exactly when each event in turn is permitted
-  pub permitted : (runTold net b log .number ≡ 0) ↔ ((S′ : State) × Leads (netOf net) (stored net b) (logEvents log) S′)
+  pub permitted : (r .number ≡ 0) ↔ ((S′ : State) × Leads (netOf net) (stored net b) (logEvents log) S′)
   -- and then all its events and ticks are told, and the state that they lead to is left
   pub done : (S′ : State) → Leads (netOf net) (stored net b) (logEvents log) S′
-      → (runTold net b log ≡ saysRun 0 (length (logEvents log)) (length (logEvents log)) (ticksIn (logEvents log)))
-      × LeavesState net b (runLeft net b log) S′
+      → (r ≡ saysRun 0 (length (logEvents log)) (length (logEvents log)) (ticksIn (logEvents log)))
+      × LeavesState net b b′ S′
   -- what is told of any log, accepted or refused, is exact, and the state just before the refused event is left
-  pub told : (S′ : State) × Ran (netOf net) (stored net b) (logEvents log) (account (runTold net b log) S′)
-      × LeavesState net b (runLeft net b log) S′
+  pub told : (S′ : State) × Ran (netOf net) (stored net b) (logEvents log) (account r S′) × LeavesState net b b′ S′
 
 -- fed in two portions, the first accepted, a log tells and leaves what it does when it is fed whole
 pub record InPortions (net b one other whole : List ℕ) : Type 0 where
@@ -93,29 +93,27 @@ pub record InPortions (net b one other whole : List ℕ) : Type 0 where
   pub left : runLeft net (runLeft net b one) other ≡ runLeft net b whole
 
 -- the degree of a transition, Definition 4; 12 where the net has no such transition
-pub record DegreeGiven (net b : List ℕ) (t : ℕ) : Type 0 where
-  pub known : t < netOf net .transitions → (n : ℕ) → (degreeTold net b t ≡ saysDegree 0 0 n) ↔ Degree (netOf net) (stored net b) t n
-  pub unknown : ¬ (t < netOf net .transitions) → degreeTold net b t ≡ saysDegree 12 0 0
+pub record DegreeGiven (net b : List ℕ) (t : ℕ) (r : DegreeTold) : Type 0 where
+  pub known : t < netOf net .transitions → (n : ℕ) → (r ≡ saysDegree 0 0 n) ↔ Degree (netOf net) (stored net b) t n
+  pub unknown : ¬ (t < netOf net .transitions) → r ≡ saysDegree 12 0 0
 
 -- the owed report: the bits of each word, how many are set, the lowest; and the standing
-pub record OwedGiven (net b : List ℕ) : Type 0 where
-  pub number-is : owedTold net b .number ≡ 0
-  pub index-is : owedTold net b .index ≡ 0
-  pub starts-are : (t : ℕ) → Tells (bitAt (owedTold net b .starts .word) t) (OwesStart (netOf net) (stored net b) t)
-  pub ends-are : (t : ℕ) → Tells (bitAt (owedTold net b .ends .word) t) (OwesEnd (netOf net) (stored net b) t)
-  pub start-count-is : HowMany (OwesStart (netOf net) (stored net b)) (netOf net .transitions) (owedTold net b .starts .count)
-  pub end-count-is : HowMany (OwesEnd (netOf net) (stored net b)) (netOf net .transitions) (owedTold net b .ends .count)
-  pub lowest-start-is : Lowest (OwesStart (netOf net) (stored net b)) (netOf net .transitions) wordBits
-      (owedTold net b .starts .lowest)
-  pub lowest-end-is : Lowest (OwesEnd (netOf net) (stored net b)) (netOf net .transitions) wordBits
-      (owedTold net b .ends .lowest)
-  pub standing-is : (s : Standing) × Stands (netOf net) (stored net b) s × (owedTold net b .standing ≡ numberOfStanding s)
+pub record OwedGiven (net b : List ℕ) (r : OwedTold) : Type 0 where
+  pub number-is : r .number ≡ 0
+  pub index-is : r .index ≡ 0
+  pub starts-are : (t : ℕ) → Tells (bitAt (r .starts .word) t) (OwesStart (netOf net) (stored net b) t)
+  pub ends-are : (t : ℕ) → Tells (bitAt (r .ends .word) t) (OwesEnd (netOf net) (stored net b) t)
+  pub start-count-is : HowMany (OwesStart (netOf net) (stored net b)) (netOf net .transitions) (r .starts .count)
+  pub end-count-is : HowMany (OwesEnd (netOf net) (stored net b)) (netOf net .transitions) (r .ends .count)
+  pub lowest-start-is : Lowest (OwesStart (netOf net) (stored net b)) (netOf net .transitions) wordBits (r .starts .lowest)
+  pub lowest-end-is : Lowest (OwesEnd (netOf net) (stored net b)) (netOf net .transitions) wordBits (r .ends .lowest)
+  pub standing-is : (s : Standing) × Stands (netOf net) (stored net b) s × (r .standing ≡ numberOfStanding s)
 
 pub record Demand2 (net b : List ℕ) : Type 0 where
-  pub degrees : (t : ℕ) → DegreeGiven net b t
-  pub owed : OwedGiven net b
-  pub event-by-event : (first second : ℕ) → EventDone net b first second
-  pub log-by-log : (log : List ℕ) → Passes (examineLog net b log) → LogRun net b log
+  pub degrees : (t : ℕ) → DegreeGiven net b t (degreeTold net b t)
+  pub owed : OwedGiven net b (owedTold net b)
+  pub event-by-event : (first second : ℕ) → EventDone net b first second (eventTold net b first second) (eventLeft net b first second)
+  pub log-by-log : (log : List ℕ) → Passes (examineLog net b log) → LogRun net b log (runTold net b log) (runLeft net b log)
   pub in-portions : (one other whole : List ℕ)
       → Passes (examineLog net b one) → Passes (examineLog net b other) → Passes (examineLog net b whole)
       → logEvents whole ≡ logEvents one ++ logEvents other → runTold net b one .number ≡ 0 → InPortions net b one other whole
@@ -123,41 +121,37 @@ pub record Demand2 (net b : List ℕ) : Type 0 where
 -- DEMAND 3
 
 -- an event taken back from the state that stands in b
-pub record EventBack (net b : List ℕ) (first second : ℕ) : Type 0 where
+pub record EventBack (net b : List ℕ) (first second : ℕ) (r : Verdict) (b′ : List ℕ) : Type 0 where
   -- that succeeds exactly if some lawful state leads here by that event
-  pub permitted : (backTold net b first second .number ≡ 0) ↔ SomeLeads (netOf net) (stored net b) (eventOf first second)
+  pub permitted : (r .number ≡ 0) ↔ SomeLeads (netOf net) (stored net b) (eventOf first second)
   -- and that state is left, so there is never a second one
   pub done : (S : State) → Lawful (netOf net) S → Moves (netOf net) S (eventOf first second) (stored net b)
-      → (backTold net b first second ≡ says 0 0) × LeavesState net b (backLeft net b first second) S
+      → (r ≡ says 0 0) × LeavesState net b b′ S
   -- each refusal is told exactly when document 01 says
-  pub refused : (why : Refusal) → (backTold net b first second ≡ says (numberOfRefusal why) 0)
-      ↔ Barred (netOf net) (stored net b) (eventOf first second) why
+  pub refused : (why : Refusal) → (r ≡ says (numberOfRefusal why) 0) ↔ Barred (netOf net) (stored net b) (eventOf first second) why
   -- and then no byte changes
-  pub kept : ¬ (backTold net b first second .number ≡ 0) → backLeft net b first second ≡ b
+  pub kept : ¬ (r .number ≡ 0) → b′ ≡ b
   -- an accepted event taken back gives every byte back, and one taken back and done again too
   pub undone : eventTold net b first second .number ≡ 0
       → (backTold net (eventLeft net b first second) first second .number ≡ 0)
       × (backLeft net (eventLeft net b first second) first second ≡ b)
-  pub redone : backTold net b first second .number ≡ 0
-      → (eventTold net (backLeft net b first second) first second .number ≡ 0)
-      × (eventLeft net (backLeft net b first second) first second ≡ b)
+  pub redone : r .number ≡ 0 → (eventTold net b′ first second .number ≡ 0) × (eventLeft net b′ first second ≡ b)
 
 -- the last n events of a log taken back from the state that stands in b
-pub record LogBack (net b log : List ℕ) (n : ℕ) : Type 0 where
+pub record LogBack (net b log : List ℕ) (n : ℕ) (r : Told) (b′ : List ℕ) : Type 0 where
   -- that succeeds exactly if the log has so many, and they lead here from some lawful state
-  pub permitted : (walkTold net b log n .number ≡ 0)
+  pub permitted : (r .number ≡ 0)
       ↔ ((n ≤ length (logEvents log))
       × ((S : State) × Lawful (netOf net) S × Leads (netOf net) S (lastOf n (logEvents log)) (stored net b)))
   -- and that state is left
   pub done : n ≤ length (logEvents log) → (S : State) → Lawful (netOf net) S
       → Leads (netOf net) S (lastOf n (logEvents log)) (stored net b)
-      → (walkTold net b log n ≡ saysRun 0 (length (logEvents log) - n) n (ticksIn (lastOf n (logEvents log))))
-      × LeavesState net b (walkLeft net b log n) S
+      → (r ≡ saysRun 0 (length (logEvents log) - n) n (ticksIn (lastOf n (logEvents log))))
+      × LeavesState net b b′ S
   -- what is told of any walk, accepted or refused, is exact, and the state where it stops is left
-  pub told : (S : State) × Walked (netOf net) (stored net b) (logEvents log) n (account (walkTold net b log n) S)
-      × LeavesState net b (walkLeft net b log n) S
+  pub told : (S : State) × Walked (netOf net) (stored net b) (logEvents log) n (account r S) × LeavesState net b b′ S
   -- 22: more events are asked than the log has, and no byte changes
-  pub too-many : length (logEvents log) < n → (walkTold net b log n ≡ saysRun 22 0 0 0) × (walkLeft net b log n ≡ b)
+  pub too-many : length (logEvents log) < n → (r ≡ saysRun 22 0 0 0) × (b′ ≡ b)
 
 -- the last n events of an accepted log, taken back from where it led: that is accepted, and the very bytes are left that a run of the
 -- earlier events leaves, which is accepted too
@@ -174,16 +168,16 @@ pub record Returns (net b log : List ℕ) (n : ℕ) : Type 0 where
   pub all : n ≡ length (logEvents log) → walkLeft net (runLeft net b log) log n ≡ b
 
 pub record Demand3 (net b : List ℕ) : Type 0 where
-  pub event-by-event : (first second : ℕ) → EventBack net b first second
-  pub log-by-log : (log : List ℕ) → Passes (examineLog net b log) → (n : ℕ) → LogBack net b log n
+  pub event-by-event : (first second : ℕ) → EventBack net b first second (backTold net b first second) (backLeft net b first second)
+  pub log-by-log : (log : List ℕ) → Passes (examineLog net b log) → (n : ℕ) → LogBack net b log n (walkTold net b log n) (walkLeft net b log n)
   pub returns : (log : List ℕ) → Passes (examineLog net b log) → runTold net b log .number ≡ 0
       → (n : ℕ) → n ≤ length (logEvents log) → Returns net b log n
 
 -- THE INITIAL STATE of a net that got past the checks: its image is written over the front, where there is room
-pub record InitialGiven (net b : List ℕ) : Type 0 where
+pub record InitialGiven (net b : List ℕ) (r : Verdict) (b′ : List ℕ) : Type 0 where
   pub done : imageLength (netOf net) ≤ length b
-      → (initialTold net b ≡ says 0 0) × Began net b (initialLeft net b) × Passes (examineState net (initialLeft net b))
-  pub no-room : length b < imageLength (netOf net) → (initialTold net b ≡ says 7 0) × (initialLeft net b ≡ b)
+      → (r ≡ says 0 0) × Began net b b′ × Passes (examineState net b′)
+  pub no-room : length b < imageLength (netOf net) → (r ≡ says 7 0) × (b′ ≡ b)
 
 -- THE CHECKS. Here nothing need be known of the bytes
 

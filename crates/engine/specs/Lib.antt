@@ -6,4 +6,5 @@ pub mod Steps
 pub mod Demands
 pub mod Faults
 pub mod OnBytes
+pub mod Promised
 pub mod Cases

@@ -1,5 +1,6 @@
--- The demands on the engine, for bytes: what is promised of every net, buffer and log that a call can be given. (The elements of a slice
--- are bytes.) Each part is stated in the file that it is taken from.
+-- The demands on the engine, for bytes: what is promised of every net, buffer and log that a call can be given. Each part is stated in
+-- the file that it is taken from. `Bytes` is discharged by the calls: each promises its part of this of the very slices that it was lent,
+-- and that they are bytes (Promised.antt, the last clause of each contract in src/calls.rt).
 -- Assumes nothing.
 use mathlib.Core.Path.{_≡_}
 use mathlib.Core.Logic.{_↔_}
@@ -11,7 +12,7 @@ use Rattle.forms.specs.Word.{Bytes}
 use Rattle.forms.specs.Logs.{IsLog, checkLog}
 use Rattle.forms.specs.AsListed.{AsListed}
 use Rattle.engine.specs.Examined.{examineNet, examineState}
-use Rattle.engine.specs.Calls.{stepTold, PartOf}
+use Rattle.engine.specs.Calls.{initialTold, initialLeft, stepTold, PartOf}
 use Rattle.engine.specs.Steps.{StepsOf, PartGiven}
 use Rattle.engine.specs.Demands.{Passes, Demand2, Demand3, InitialGiven, ToldPasses, ToldFault}
 use Rattle.engine.specs.Faults.{Examines}
@@ -27,7 +28,7 @@ pub record OnBytes : Type 0 where
   pub demand-2 : (net b : List ℕ) → Bytes net → Bytes b → Passes (examineState net b) → Demand2 net b
   pub demand-3 : (net b : List ℕ) → Bytes b → Passes (examineState net b) → Demand3 net b
   -- the initial state, and the steps of a log
-  pub initial : (net b : List ℕ) → Bytes net → Passes (examineNet net) → InitialGiven net b
+  pub initial : (net b : List ℕ) → Bytes net → Passes (examineNet net) → InitialGiven net b (initialTold net b) (initialLeft net b)
   pub log-good : (log : List ℕ) → (checkLog log ≡ checked.Good) ↔ IsLog log
   pub steps : (log : List ℕ) → checkLog log ≡ checked.Good → StepsOf log
   -- the part that `step` gives, of which its contract says `PartOf`

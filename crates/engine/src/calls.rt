@@ -1,5 +1,6 @@
 // The calls of document 01. None asks anything of its caller: what is given is examined first, net, room, state, log and request in this
-// order, and the first fault is told. A call that is refused before its first event writes nothing.
+// order, and the first fault is told. A call that is refused before its first event writes nothing. The first clauses of a contract say what
+// is told and left, as a function of the bytes; the last says what that comes to, in the words of the demands (specs/Promised.antt).
 use crate::answers::DegreeTold;
 use crate::answers::OwedTold;
 use crate::answers::StepTold;
@@ -23,6 +24,9 @@ use runs::walk;
 ghost use mathlib.Core.Path.{_≡_};
 ghost use Rattle.engine.specs.Calls.{netTold, stateTold, initialTold, initialLeft, eventTold, eventLeft, backTold, backLeft};
 ghost use Rattle.engine.specs.Calls.{degreeTold, owedTold, runTold, runLeft, walkTold, walkLeft, stepTold, PartOf};
+ghost use Rattle.engine.specs.Steps.{PartGiven};
+ghost use Rattle.engine.specs.Promised.{CheckNetPromise, CheckStatePromise, InitialPromise, EventPromise, BackPromise};
+ghost use Rattle.engine.specs.Promised.{DegreePromise, OwedPromise, RunPromise, WalkPromise, StepPromise};
 
 // 23: the log has no such step.
 pub const NO_SUCH_STEP: u8 = 23;
@@ -30,6 +34,7 @@ pub const NO_SUCH_STEP: u8 = 23;
 // Checks a net: 1 to 6.
 pub fn check_net(net: &[u8]) -> Verdict
     ensures { λ r. ⌜ r ≡ netTold (now (net .entry)) ⌝ }
+    ensures { λ r. ⌜ CheckNetPromise (now (net .entry)) r ⌝ }
 {
     Verdict::of(net::check_net(net))
 }
@@ -37,6 +42,7 @@ pub fn check_net(net: &[u8]) -> Verdict
 // Checks a state of a net: 1 to 6, 8, 9.
 pub fn check_state(net: &[u8], state: &[u8]) -> Verdict
     ensures { λ r. ⌜ r ≡ stateTold (now (net .entry)) (now (state .entry)) ⌝ }
+    ensures { λ r. ⌜ CheckStatePromise (now (net .entry)) (now (state .entry)) r ⌝ }
 {
     match examine::examine_state(net, state) {
         Examined::Fit(_) => Verdict {
@@ -51,6 +57,7 @@ pub fn check_state(net: &[u8], state: &[u8]) -> Verdict
 pub fn initial(net: &[u8], state: &mut [u8]) -> Verdict
     ensures { λ r. ⌜ r ≡ initialTold (now (net .entry)) (now (state .entry)) ⌝ }
     ensures { λ _. ⌜ now (state .exit) ≡ initialLeft (now (net .entry)) (now (state .entry)) ⌝ }
+    ensures { λ r. ⌜ InitialPromise (now (net .entry)) (now (state .entry)) r (now (state .exit)) ⌝ }
 {
     match examine::examine_net(net) {
         Examined::Fit(shape) => Verdict::of(initial::initial(net, shape, state)),
@@ -62,6 +69,7 @@ pub fn initial(net: &[u8], state: &mut [u8]) -> Verdict
 pub fn event(net: &[u8], state: &mut [u8], first: u8, second: u8) -> Verdict
     ensures { λ r. ⌜ r ≡ eventTold (now (net .entry)) (now (state .entry)) first second ⌝ }
     ensures { λ _. ⌜ now (state .exit) ≡ eventLeft (now (net .entry)) (now (state .entry)) first second ⌝ }
+    ensures { λ r. ⌜ EventPromise (now (net .entry)) (now (state .entry)) first second r (now (state .exit)) ⌝ }
 {
     match examine::examine_state(net, state) {
         Examined::Fit(shape) => Verdict::answered(event::apply(net, shape, state, first, second)),
@@ -73,6 +81,7 @@ pub fn event(net: &[u8], state: &mut [u8], first: u8, second: u8) -> Verdict
 pub fn back(net: &[u8], state: &mut [u8], first: u8, second: u8) -> Verdict
     ensures { λ r. ⌜ r ≡ backTold (now (net .entry)) (now (state .entry)) first second ⌝ }
     ensures { λ _. ⌜ now (state .exit) ≡ backLeft (now (net .entry)) (now (state .entry)) first second ⌝ }
+    ensures { λ r. ⌜ BackPromise (now (net .entry)) (now (state .entry)) first second r (now (state .exit)) ⌝ }
 {
     match examine::examine_state(net, state) {
         Examined::Fit(shape) => Verdict::answered(event::back(net, shape, state, first, second)),
@@ -83,6 +92,7 @@ pub fn back(net: &[u8], state: &mut [u8], first: u8, second: u8) -> Verdict
 // How many times transition t is enabled: 1 to 6, 8, 9, 12.
 pub fn degree(net: &[u8], state: &[u8], t: usize) -> DegreeTold
     ensures { λ r. ⌜ r ≡ degreeTold (now (net .entry)) (now (state .entry)) t ⌝ }
+    ensures { λ r. ⌜ DegreePromise (now (net .entry)) (now (state .entry)) t r ⌝ }
 {
     match examine::examine_state(net, state) {
         Examined::Fit(shape) => {
@@ -106,6 +116,7 @@ pub fn degree(net: &[u8], state: &[u8], t: usize) -> DegreeTold
 // What a state owes, and how it stands: 1 to 6, 8, 9.
 pub fn owed(net: &[u8], state: &[u8]) -> OwedTold
     ensures { λ r. ⌜ r ≡ owedTold (now (net .entry)) (now (state .entry)) ⌝ }
+    ensures { λ r. ⌜ OwedPromise (now (net .entry)) (now (state .entry)) r ⌝ }
 {
     match examine::examine_state(net, state) {
         Examined::Fit(shape) => OwedTold::of(report::report(net, shape, state)),
@@ -117,6 +128,7 @@ pub fn owed(net: &[u8], state: &[u8]) -> OwedTold
 pub fn run(net: &[u8], state: &mut [u8], log: &[u8]) -> Told
     ensures { λ r. ⌜ r ≡ runTold (now (net .entry)) (now (state .entry)) (now (log .entry)) ⌝ }
     ensures { λ _. ⌜ now (state .exit) ≡ runLeft (now (net .entry)) (now (state .entry)) (now (log .entry)) ⌝ }
+    ensures { λ r. ⌜ RunPromise (now (net .entry)) (now (state .entry)) (now (log .entry)) r (now (state .exit)) ⌝ }
 {
     match examine::examine_log(net, state, log) {
         Examined::Fit(shape) => run::run(net, shape, state, &log[places::EVENTS_AT..]),
@@ -128,6 +140,7 @@ pub fn run(net: &[u8], state: &mut [u8], log: &[u8]) -> Told
 pub fn walk(net: &[u8], state: &mut [u8], log: &[u8], n: usize) -> Told
     ensures { λ r. ⌜ r ≡ walkTold (now (net .entry)) (now (state .entry)) (now (log .entry)) n ⌝ }
     ensures { λ _. ⌜ now (state .exit) ≡ walkLeft (now (net .entry)) (now (state .entry)) (now (log .entry)) n ⌝ }
+    ensures { λ r. ⌜ WalkPromise (now (net .entry)) (now (state .entry)) (now (log .entry)) n r (now (state .exit)) ⌝ }
 {
     match examine::examine_log(net, state, log) {
         Examined::Fit(shape) => walk::walk(net, shape, state, &log[places::EVENTS_AT..], n),
@@ -138,6 +151,7 @@ pub fn walk(net: &[u8], state: &mut [u8], log: &[u8], n: usize) -> Told
 // Where step k of a log stands in it: 10, 23.
 pub fn step_told(log: &[u8], k: usize) -> StepTold
     ensures { λ r. ⌜ r ≡ stepTold (now (log .entry)) k ⌝ }
+    ensures { λ r. ⌜ StepPromise (now (log .entry)) k r ⌝ }
 {
     let checked = log::check_log(log);
     let Checked::Good = checked else {
@@ -157,6 +171,7 @@ pub fn step_told(log: &[u8], k: usize) -> StepTold
 // Step k of a log, as a part of the log itself; the empty part at its front where step_told refuses.
 pub fn step(log: &[u8], k: usize) -> &[u8]
     ensures { λ r. ⌜ PartOf (log .entry) r (stepTold (now (log .entry)) k) ⌝ }
+    ensures { λ r. ⌜ PartGiven (log .entry) r k ⌝ }
 {
     let told = step_told(log, k);
     let start = told.start;

@@ -10,6 +10,8 @@ use Rattle.engine.specs.declared.examine.Examined.the-variants as examin
 use Rattle.engine.specs.Examined.{examineState}
 use Rattle.engine.specs.Calls.{degreeTold}
 use Rattle.engine.proofs.Fits.{state-fits}
+use Rattle.forms.specs.Word.{Bytes}
+use Rattle.engine.proofs.Promised.{degree-promised}
 use borrow.Author.Needs.{needs}
 use Rattle.engine.proofs.calls.degree.Statement.{statement}
 use Rattle.engine.proofs.calls.degree.Tie as tie
@@ -27,6 +29,12 @@ same c =
     let s = c .shape .given .0 .0 in
     transitions-model n s (fits c .net-framed) ∙ sym (transitions-same n s (fits c .net-framed))
 
+bytes : (c : tie.After-shared-slice-known2) → Bytes (c .before .before .args .net .now)
+bytes c i = omega (arith, c .before .shared-slice-known .given i)
+
+small : (c : tie.After-shared-slice-known2) → Bytes (c .before .before .args .state .now)
+small c i = omega (arith, c .shared-slice-known2 .given i)
+
 examine-state-requires : tie.Need-examine-state-requires
 examine-state-requires c κs = search needs
 
@@ -42,7 +50,7 @@ returns c =
     let f = c .before .before .before .before in
     let a = f .before .before .before .before .before .args in
     let none = le-ltb (a .t) (netOf (a .net .now) .transitions) (omega (arith, same f)) in
-    rw (found f, none, c .number .ensures)
+    degree-promised _ (bytes (f .before .before .before)) _ (small (f .before .before .before)) _ _ (rw (found f, none, c .number .ensures))
 
 degree-requires : tie.Need-degree-requires
 degree-requires c κs =
@@ -61,13 +69,14 @@ returns-2 c =
     let f = c .before .before .before .before in
     let a = f .before .before .before .before .before .args in
     let some = lt-ltb (a .t) (netOf (a .net .now) .transitions) (omega (arith, same f)) in
-    rw (found f, some, c .degree .ensures)
+    degree-promised _ (bytes (f .before .before .before)) _ (small (f .before .before .before)) _ _ (rw (found f, some, c .degree .ensures))
 
 returns-3 : tie.Need-returns-3
 unfolding degreeTold
 returns-3 c =
     let f = c .before .before in
-    rw (sym (f .before .before .examine-state .ensures) ∙ f .fault .given .1) (c .unfit .ensures)
+    let k = f .before .before .before in
+    degree-promised _ (bytes k) _ (small k) _ _ (rw (sym (f .before .before .examine-state .ensures) ∙ f .fault .given .1) (c .unfit .ensures))
 
 pub degree-spec : {M : Type 1} → statement M
 degree-spec =

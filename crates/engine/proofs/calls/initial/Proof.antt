@@ -1,11 +1,17 @@
 -- `calls::initial` meets its contract: behind the net, the initial state as forms writes it.
 -- Assumes nothing.
 use mathlib.Core.Path.{refl, sym, _∙_}
+use native.Mathlib.Omega.{arith}
 use Rattle.engine.specs.Calls.{initialTold, initialLeft}
 use Rattle.engine.proofs.Fits.{net-fits}
+use Rattle.forms.specs.Word.{Bytes}
+use Rattle.engine.proofs.Promised.{initial-promised}
 use borrow.Author.Needs.{needs}
 use Rattle.engine.proofs.calls.initial.Statement.{statement}
 use Rattle.engine.proofs.calls.initial.Tie as tie
+
+bytes : (c : tie.After-slice-known) → Bytes (c .before .before .args .net .now)
+bytes c i = omega (arith, c .before .shared-slice-known .given i)
 
 examine-net-requires : tie.Need-examine-net-requires
 examine-net-requires c κs = search needs
@@ -33,13 +39,15 @@ unfolding initialTold initialLeft
 returns c =
     let i = c .before .before .before in
     let f = i .before .before .before in
-    rw (sym (f .before .before .examine-net .ensures) ∙ f .shape .given .1, c .of .ensures) (rw (i .initial .ensures .0), i .initial .ensures .1)
+    initial-promised _ (bytes (f .before .before .before)) _ _ _
+    (rw (sym (f .before .before .examine-net .ensures) ∙ f .shape .given .1, c .of .ensures) (rw (i .initial .ensures .0), i .initial .ensures .1))
 
 returns-2 : tie.Need-returns-2
 unfolding initialTold initialLeft
 returns-2 c =
     let f = c .before .before in
-    rw (sym (f .before .before .examine-net .ensures) ∙ f .fault .given .1) (c .unfit .ensures, refl)
+    initial-promised _ (bytes (f .before .before .before)) _ _ _
+    (rw (sym (f .before .before .examine-net .ensures) ∙ f .fault .given .1) (c .unfit .ensures, refl))
 
 pub initial-spec : {M : Type 1} → statement M
 initial-spec =

@@ -10,6 +10,8 @@ use Rattle.forms.proofs.Logs.{log-exact}
 use Rattle.logs.proofs.StepLaws.{span-piece}
 use Rattle.logs.proofs.PairLaws.{rest}
 use Rattle.engine.specs.Calls.{stepTold}
+use Rattle.forms.specs.Word.{Bytes}
+use Rattle.engine.proofs.Promised.{step-promised}
 use borrow.Author.Needs.{needs}
 use Rattle.engine.proofs.calls.step_told.Statement.{statement}
 use Rattle.engine.proofs.calls.step_told.Tie as tie
@@ -26,6 +28,9 @@ lies c =
     let log = c .before .before .before .before .before .before .before .before .before .args .log .now in
     let p = span-piece _ _ (sym (c .before .before .before .span-of .ensures) ∙ c .before .from .given .1) in
     (p .1, omega (arith, rw (rest 5 log, length-drop 5 log) at (p .2)))
+
+bytes : (c : tie.After-shared-slice-known) → Bytes (c .before .args .log .now)
+bytes c i = omega (arith, c .shared-slice-known .given i)
 
 check-log-requires : tie.Need-check-log-requires
 check-log-requires c κs = search needs
@@ -46,7 +51,8 @@ returns : tie.Need-returns
 unfolding stepTold
 returns c =
     let is = c .before .before .enum-told2 .given .1 in
-    rw (sym (c .before .before .before .before .check-log .ensures) ∙ is) (c .refused .ensures ∙ rw (c .before .number .ensures, is))
+    step-promised _ (bytes (c .before .before .before .before .before)) _ _
+    (rw (sym (c .before .before .before .before .check-log .ensures) ∙ is) (c .refused .ensures ∙ rw (c .before .number .ensures, is)))
 
 sub-span-of : tie.Need-sub-span-of
 sub-span-of c = long c
@@ -79,11 +85,17 @@ refused-requires-2 c κs = search needs
 
 returns-2 : tie.Need-returns-2
 unfolding stepTold
-returns-2 c = rw (good (c .before .before .before .before .before), ← rest, sym (c .before .before .before .span-of .ensures) ∙ c .before .from .given .1)
+returns-2 c =
+    let g = c .before .before .before .before .before in
+    step-promised _ (bytes (g .before .before .before)) _ _
+    (rw (good g, ← rest, sym (c .before .before .before .span-of .ensures) ∙ c .before .from .given .1))
 
 returns-3 : tie.Need-returns-3
 unfolding stepTold
-returns-3 c = rw (good (c .before .before .before .before .before), ← rest, sym (c .before .before .before .span-of .ensures) ∙ c .before .enum-told3 .given .1) (c .refused2 .ensures)
+returns-3 c =
+    let g = c .before .before .before .before .before in
+    step-promised _ (bytes (g .before .before .before)) _ _
+    (rw (good g, ← rest, sym (c .before .before .before .span-of .ensures) ∙ c .before .enum-told3 .given .1) (c .refused2 .ensures))
 
 pub step-told-spec : {M : Type 1} → statement M
 step-told-spec =
