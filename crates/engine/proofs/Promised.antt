@@ -65,16 +65,16 @@ module _ {refused : Fault → Type 0} {done : Type 0} (net : List ℕ) (bytes : 
     of-state bad good =
         let x = examines net b [] in
         by-cases (examineState net b) (λ why e. (x .state-faults why .0 e, bad why e)) (λ p.
-            let (n, s) = x .state-passes .0 p in
-            ((n, s, bytes, small), good p))
+        let (n, s) = x .state-passes .0 p in
+        ((n, s, bytes, small), good p))
 
     of-log : (log : List ℕ) → Bytes log → ((why : Fault) → examineLog net b log ≡ examined.Unfit why → refused why)
         → (Passes (examineLog net b log) → Passes (examineState net b) → done) → OfLog net b log refused done
     of-log log few bad good =
         let x = examines net b log in
         by-cases (examineLog net b log) (λ why e. (x .log-faults why .0 e, bad why e)) (λ p.
-            let (n, s, l) = x .log-passes .0 p in
-            ((n, s, l, bytes, small, few), good p (x .state-passes .1 (n, s))))
+        let (n, s, l) = x .log-passes .0 p in
+        ((n, s, l, bytes, small, few), good p (x .state-passes .1 (n, s))))
 
 -- THE CALLS
 

@@ -16,7 +16,7 @@ same-length : tie.Need-same-length
 same-length c = search needs
 
 returns : tie.Need-returns
-returns c = (ap verdictFields (c .before .before .before .before .back .ensures .0), c .before .before .before .before .back .ensures .1)
+returns c = (ap verdictFields (c .before .before .before .before .back .ensures .0), c .before .before .before .before .back .ensures .1 .0)
 
 pub menu-back-spec : {M : Type 1} → statement M
 menu-back-spec = tie.close (tie.spec back-requires cast-t9 same-length returns)

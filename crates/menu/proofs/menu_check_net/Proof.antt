@@ -13,7 +13,7 @@ cast-t4 : tie.Need-cast-t4
 cast-t4 c = search needs
 
 returns : tie.Need-returns
-returns c = ap verdictFields (c .before .before .check-net .ensures)
+returns c = ap verdictFields (c .before .before .check-net .ensures .0)
 
 pub menu-check-net-spec : {M : Type 1} → statement M
 menu-check-net-spec = tie.close (tie.spec check-net-requires cast-t4 returns)

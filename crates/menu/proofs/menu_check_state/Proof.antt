@@ -13,7 +13,7 @@ cast-t5 : tie.Need-cast-t5
 cast-t5 c = search needs
 
 returns : tie.Need-returns
-returns c = ap verdictFields (c .before .before .check-state .ensures)
+returns c = ap verdictFields (c .before .before .check-state .ensures .0)
 
 pub menu-check-state-spec : {M : Type 1} → statement M
 menu-check-state-spec = tie.close (tie.spec check-state-requires cast-t5 returns)

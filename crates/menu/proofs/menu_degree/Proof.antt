@@ -13,7 +13,7 @@ cast-t6 : tie.Need-cast-t6
 cast-t6 c = search needs
 
 returns : tie.Need-returns
-returns c = ap degreeFields (c .before .before .degree .ensures)
+returns c = ap degreeFields (c .before .before .degree .ensures .0)
 
 pub menu-degree-spec : {M : Type 1} → statement M
 menu-degree-spec = tie.close (tie.spec degree-requires cast-t6 returns)

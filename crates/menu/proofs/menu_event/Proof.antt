@@ -16,7 +16,7 @@ same-length : tie.Need-same-length
 same-length c = search needs
 
 returns : tie.Need-returns
-returns c = (ap verdictFields (c .before .before .before .before .event .ensures .0), c .before .before .before .before .event .ensures .1)
+returns c = (ap verdictFields (c .before .before .before .before .event .ensures .0), c .before .before .before .before .event .ensures .1 .0)
 
 pub menu-event-spec : {M : Type 1} → statement M
 menu-event-spec = tie.close (tie.spec event-requires cast-t9 same-length returns)

@@ -16,7 +16,7 @@ same-length : tie.Need-same-length
 same-length c = search needs
 
 returns : tie.Need-returns
-returns c = (ap verdictFields (c .before .before .before .before .initial .ensures .0), c .before .before .before .before .initial .ensures .1)
+returns c = (ap verdictFields (c .before .before .before .before .initial .ensures .0), c .before .before .before .before .initial .ensures .1 .0)
 
 pub menu-initial-spec : {M : Type 1} → statement M
 menu-initial-spec = tie.close (tie.spec initial-requires cast-t7 same-length returns)

@@ -28,7 +28,7 @@ cast-t13 : tie.Need-cast-t13
 cast-t13 c = search needs
 
 returns : tie.Need-returns
-returns c = ap owedFields (c .before .before .before .before .before .before .before .before .before .owed .ensures)
+returns c = ap owedFields (c .before .before .before .before .before .before .before .before .before .owed .ensures .0)
 
 pub menu-owed-spec : {M : Type 1} → statement M
 menu-owed-spec =

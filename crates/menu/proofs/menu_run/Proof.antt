@@ -16,7 +16,7 @@ same-length : tie.Need-same-length
 same-length c = search needs
 
 returns : tie.Need-returns
-returns c = (ap toldFields (c .before .before .before .before .run .ensures .0), c .before .before .before .before .run .ensures .1)
+returns c = (ap toldFields (c .before .before .before .before .run .ensures .0), c .before .before .before .before .run .ensures .1 .0)
 
 pub menu-run-spec : {M : Type 1} → statement M
 menu-run-spec = tie.close (tie.spec run-requires cast-t8 same-length returns)

@@ -13,7 +13,7 @@ cast-t5 : tie.Need-cast-t5
 cast-t5 c = search needs
 
 returns : tie.Need-returns
-returns c = ap stepFields (c .before .before .step-told .ensures)
+returns c = ap stepFields (c .before .before .step-told .ensures .0)
 
 pub menu-step-spec : {M : Type 1} → statement M
 menu-step-spec = tie.close (tie.spec step-told-requires cast-t5 returns)

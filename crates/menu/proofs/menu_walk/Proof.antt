@@ -16,7 +16,7 @@ same-length : tie.Need-same-length
 same-length c = search needs
 
 returns : tie.Need-returns
-returns c = (ap toldFields (c .before .before .before .before .walk .ensures .0), c .before .before .before .before .walk .ensures .1)
+returns c = (ap toldFields (c .before .before .before .before .walk .ensures .0), c .before .before .before .before .walk .ensures .1 .0)
 
 pub menu-walk-spec : {M : Type 1} → statement M
 menu-walk-spec = tie.close (tie.spec walk-requires cast-t9 same-length returns)

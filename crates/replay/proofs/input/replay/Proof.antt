@@ -26,7 +26,7 @@ returns c =
     let a = c .before .before .before .before .before .before .before .before .before .before .args in
     let i = c .before .before .before .before .initial in
     let n = c .before .before .before .before .before .before .before .net-length in
-    not-begun (a .input .now) (a .state .now) (n .result) (n .ensures .0) (i .result) (i .last .1 .0) (i .ensures .0) (i .ensures .1) (c .if1 .taken)
+    not-begun (a .input .now) (a .state .now) (n .result) (n .ensures .0) (i .result) (i .last .1 .0) (i .ensures .0) (i .ensures .1 .0) (c .if1 .taken)
 
 slice-aggregate-run-on : tie.Need-slice-aggregate-run-on
 slice-aggregate-run-on c =
@@ -55,7 +55,7 @@ returns-2 c =
     let i = e .before .before .before .before .initial in
     let n = e .before .before .before .before .before .before .before .net-length in
     let a = e .before .before .before .before .before .before .before .before .before .before .args in
-    begun (a .input .now) (a .state .now) (n .result) (n .ensures .0) (i .result) (i .last .1 .0) (i .ensures .0) (i .ensures .1) (e .if1 .left)
+    begun (a .input .now) (a .state .now) (n .result) (n .ensures .0) (i .result) (i .last .1 .0) (i .ensures .0) (i .ensures .1 .0) (e .if1 .left)
     (run .result) (run .last .1 .0) (run .ensures .0) (run .ensures .1)
 
 pub replay-spec : {M : Type 1} → statement M

@@ -19,7 +19,7 @@ returns c =
     let a = c .before .before .before .before .before .before .before .before .before .args in
     let r = c .before .before .before .before .run in
     ran-on (a .net .now) (a .state .now) (a .log .now) (r .result) (r .last .1 .0) (c .standing .result)
-    (r .ensures .0) (r .ensures .1) (c .standing .ensures)
+    (r .ensures .0) (r .ensures .1 .0) (c .standing .ensures)
 
 pub run-on-spec : {M : Type 1} → statement M
 run-on-spec = tie.close (tie.spec run-requires standing-requires same-length returns)

@@ -22,7 +22,7 @@ returns-2 : tie.Need-returns-2
 returns-2 c =
     let a = c .before .before .before .before .before .args in
     stands-late (c .before .before .is-early .result) (a .number) (a .net .now) (a .state .now) (c .owed .result .standing)
-    (c .before .before .is-early .ensures) (c .before .if1 .left) (ap (λ (x : OwedTold). x .standing) (c .owed .ensures))
+    (c .before .before .is-early .ensures) (c .before .if1 .left) (ap (λ (x : OwedTold). x .standing) (c .owed .ensures .0))
 
 pub standing-spec : {M : Type 1} → statement M
 standing-spec = tie.close (tie.spec is-early-requires returns owed-requires returns-2)
