@@ -20,8 +20,8 @@ use Rattle.engine.specs.Said.{says}
 use Rattle.engine.specs.Calls.{netTold, stateTold, initialTold, initialLeft, eventTold, eventLeft, backTold, backLeft}
 use Rattle.engine.specs.Calls.{degreeTold, owedTold, runTold, runLeft, walkTold, walkLeft, stepTold, PartOf}
 use Rattle.engine.specs.Steps.{PartGiven}
-use Rattle.engine.specs.Demands.{Passes}
-use Rattle.engine.specs.Promised.{Promise, OfNet, OfState, OfLog, CheckNetPromise, CheckStatePromise, InitialPromise, EventPromise}
+use Rattle.engine.specs.Demands.{Passes, Demand2, Demand3}
+use Rattle.engine.specs.Promised.{Promise, Fit, OfNet, OfState, OfLog, CheckNetPromise, CheckStatePromise, InitialPromise, EventPromise}
 use Rattle.engine.specs.Promised.{BackPromise, DegreePromise, OwedPromise, RunPromise, WalkPromise, StepPromise}
 use Rattle.engine.proofs.Fits.{good-then}
 use Rattle.engine.proofs.StepParts.{steps-of}
@@ -66,7 +66,7 @@ module _ {refused : Fault → Type 0} {done : Type 0} (net : List ℕ) (bytes : 
         let x = examines net b [] in
         by-cases (examineState net b) (λ why e. (x .state-faults why .0 e, bad why e)) (λ p.
         let (n, s) = x .state-passes .0 p in
-        ((n, s, bytes, small), good p))
+        (record { is-net = n; is-state = s; net-bytes = bytes; state-bytes = small }, good p))
 
     of-log : (log : List ℕ) → Bytes log → ((why : Fault) → examineLog net b log ≡ examined.Unfit why → refused why)
         → (Passes (examineLog net b log) → Passes (examineState net b) → done) → OfLog net b log refused done
@@ -74,7 +74,13 @@ module _ {refused : Fault → Type 0} {done : Type 0} (net : List ℕ) (bytes : 
         let x = examines net b log in
         by-cases (examineLog net b log) (λ why e. (x .log-faults why .0 e, bad why e)) (λ p.
         let (n, s, l) = x .log-passes .0 p in
-        ((n, s, l, bytes, small, few), good p (x .state-passes .1 (n, s))))
+        ((record { is-net = n; is-state = s; net-bytes = bytes; state-bytes = small }, l, few), good p (x .state-passes .1 (n, s))))
+
+-- what a call promises to be fit meets demands 2 and 3 whole: also where they speak of several calls in a row
+pub fit-meets : (net b : List ℕ) → Fit net b → Demand2 net b × Demand3 net b
+fit-meets net b f =
+    let p = examines net b [] .state-passes .1 (f .is-net, f .is-state) in
+    (demand-2 net b (f .net-bytes) (f .state-bytes) p, demand-3 net b (f .state-bytes) p)
 
 -- THE CALLS
 

@@ -1,6 +1,7 @@
 -- What each call promises of the very bytes that it was lent, of what it tells (r) and of what it leaves of the buffer b (b′): the last
 -- clause of its contract in src/calls.rt. Either what was given is at fault; then that fault is told and nothing is written. Or it is what
--- document 01 asks; then the demands are met. That what was lent are bytes is promised with it, so no theorem's premise is left open.
+-- document 01 asks; then the demands are met. That what was lent are bytes is promised with it, as the call learns it from the language:
+-- so no premise is left open, and what the demands say of several calls in a row holds too (`Fit`).
 -- Assumes nothing.
 use mathlib.Core.Path.{_≡_}
 use mathlib.Core.List.{List}
@@ -28,15 +29,22 @@ pub data Promise (unfit : Fault → Type 0) (fit : Type 0) (refused : Fault → 
   at-fault : (why : Fault) → unfit why → refused why → Promise unfit fit refused done
   in-form : fit → done → Promise unfit fit refused done
 
+-- a net and a state are what document 01 asks, and bytes
+pub record Fit (net b : List ℕ) : Type 0 where
+  pub is-net : IsNet net
+  pub is-state : IsState (netOf net) b
+  pub net-bytes : Bytes net
+  pub state-bytes : Bytes b
+
 -- given a net; a net and a state; a net, a state and a log; a log
 abbrev pub OfNet : List ℕ → (Fault → Type 0) → Type 0 → Type 0
 OfNet net = Promise (NetFaulty net) (IsNet net × Bytes net)
 
 abbrev pub OfState : List ℕ → List ℕ → (Fault → Type 0) → Type 0 → Type 0
-OfState net b = Promise (StateUnfit net b) (IsNet net × IsState (netOf net) b × Bytes net × Bytes b)
+OfState net b = Promise (StateUnfit net b) (Fit net b)
 
 abbrev pub OfLog : List ℕ → List ℕ → List ℕ → (Fault → Type 0) → Type 0 → Type 0
-OfLog net b log = Promise (LogUnfit net b log) (IsNet net × IsState (netOf net) b × IsLog log × Bytes net × Bytes b × Bytes log)
+OfLog net b log = Promise (LogUnfit net b log) (Fit net b × IsLog log × Bytes log)
 
 abbrev pub OfLogAlone : List ℕ → (Fault → Type 0) → Type 0 → Type 0
 OfLogAlone log = Promise (λ why. (why ≡ fault.LogFrame) × ¬ IsLog log) (IsLog log × Bytes log)
