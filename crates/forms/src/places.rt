@@ -16,6 +16,17 @@ pub const WIDTH_AT: usize = 7;
 // The events follow the fifth byte of a log.
 pub const EVENTS_AT: usize = 5;
 
+// The longest lawful net, state and log, for who lends a buffer.
+pub const LONGEST_NET: usize = 7
+    + 2 * Net::MAX_PLACES
+    + Net::MAX_TRANSITIONS * (2 + 2 * Net::MAX_PLACES);
+
+pub const LONGEST_STATE: usize = 8
+    + 2 * Net::MAX_PLACES
+    + 2 * Net::MAX_TRANSITIONS * (Net::MAX_DURATION + 1);
+
+pub const LONGEST_LOG: usize = EVENTS_AT + 2 * Net::MAX_EVENTS;
+
 // Where the initial marking of place p stands in a net.
 pub fn initial_at(p: usize) -> usize
     requires { ⌜ p < 256 ⌝ }

@@ -1,148 +1,124 @@
 // The line of each call: its name, the answer's fields, and for a call that may write, the whole buffer afterwards. The calls are those
 // of the C interface, so that the test vectors hold it too.
-use crate::request::Request;
 use text::line;
-ghost use Prim.Native.Nat.{_+_, _*_, _<_, _≤_};
+ghost use mathlib.Core.Path.{_≡_};
+ghost use mathlib.Core.List.{[], _∷_};
+ghost use Prim.Native.Nat.{_≤_};
 ghost use lib.ListN.{length};
-ghost use Rattle.text.specs.Lines.{fieldMost};
-ghost use Rattle.menuask.specs.Sizes.{sliceMost, nameMost, begunMost, bufferMost, lineMost};
-
-// A blank and a buffer in hex, or `-` for an empty one.
-fn buffer(out: &mut [u8], at: usize, state: &[u8]) -> usize
-    requires { ⌜ at + bufferMost (length (now state)) ≤ length (now out) ⌝ }
-    ensures { λ r. ⌜ r ≤ at + bufferMost (length (now (state .entry))) ⌝ }
-{
-    let from = line::put_byte(out, at, b' ');
-    if state.len() == 0 {
-        return line::put_byte(out, from, b'-');
-    }
-    line::put_hex(out, from, state)
-}
-
-// A call's name, and the number and the index that it tells: how every line begins.
-fn begun(out: &mut [u8], name: &[u8], number: u64, index: u64) -> usize
-    requires { ⌜ (length (now name) ≤ nameMost) × (begunMost ≤ length (now out)) ⌝ }
-    ensures { λ r. ⌜ r ≤ begunMost ⌝ }
-{
-    let at = line::put_bytes(out, 0, name);
-    pair(out, at, number, index)
-}
-
-// Two numbers.
-fn pair(out: &mut [u8], at: usize, first: u64, second: u64) -> usize
-    requires { ⌜ at + 2 * fieldMost ≤ length (now out) ⌝ }
-    ensures { λ r. ⌜ r ≤ at + 2 * fieldMost ⌝ }
-{
-    let behind = line::put_field(out, at, first);
-    line::put_field(out, behind, second)
-}
+ghost use Rattle.text.specs.Lines.{Line};
+ghost use Rattle.engine.specs.Calls.{netTold, stateTold, initialTold, initialLeft, eventTold, eventLeft, backTold, backLeft};
+ghost use Rattle.engine.specs.Calls.{degreeTold, owedTold, runTold, runLeft, walkTold, walkLeft, stepTold};
+ghost use Rattle.menu.specs.Fields.{verdictFields, degreeFields, owedFields, toldFields, stepFields};
+ghost use Rattle.menuask.specs.Replies.{checkNetName, initialName, checkStateName, eventName, backName, degreeName, owedName};
+ghost use Rattle.menuask.specs.Replies.{runName, walkName, stepName, replyTo, Replied, replyMost};
 
 fn check_net(out: &mut [u8], net: &[u8]) -> usize
-    requires { ⌜ lineMost < length (now out) ⌝ }
-    ensures { λ r. ⌜ r ≤ lineMost ⌝ }
+    requires { ⌜ replyMost 0 ≤ length (now out) ⌝ }
+    ensures { λ r. ⌜ r ≤ length (now (out .exit)) ⌝ }
+    ensures { λ r. ⌜ Line (now (out .entry)) 0 checkNetName (verdictFields (netTold (now (net .entry)))) [] (now (out .exit)) r ⌝ }
 {
     let mut told = [0u64; 2];
     menu::menu_check_net(net, &mut told);
-    begun(out, b"check_net", told[0], told[1])
+    line::put_line(out, 0, b"check_net", &told)
 }
 
 fn initial(out: &mut [u8], net: &[u8], state: &mut [u8]) -> usize
-    requires { ⌜ (lineMost < length (now out)) × (length (now state) ≤ sliceMost) ⌝ }
-    ensures { λ r. ⌜ r ≤ lineMost ⌝ }
+    requires { ⌜ replyMost (length (now state)) ≤ length (now out) ⌝ }
+    ensures { λ r. ⌜ r ≤ length (now (out .exit)) ⌝ }
+    ensures { λ r. ⌜ Line (now (out .entry)) 0 initialName (verdictFields (initialTold (now (net .entry)) (now (state .entry)))) (initialLeft (now (net .entry)) (now (state .entry)) ∷ []) (now (out .exit)) r ⌝ }
+    ensures { λ _. ⌜ now (state .exit) ≡ initialLeft (now (net .entry)) (now (state .entry)) ⌝ }
 {
     let mut told = [0u64; 2];
     menu::menu_initial(net, state, &mut told);
-    let at = begun(out, b"initial", told[0], told[1]);
-    buffer(out, at, state)
+    line::put_line_with(out, 0, b"initial", &told, state)
 }
 
 fn check_state(out: &mut [u8], net: &[u8], state: &[u8]) -> usize
-    requires { ⌜ lineMost < length (now out) ⌝ }
-    ensures { λ r. ⌜ r ≤ lineMost ⌝ }
+    requires { ⌜ replyMost 0 ≤ length (now out) ⌝ }
+    ensures { λ r. ⌜ r ≤ length (now (out .exit)) ⌝ }
+    ensures { λ r. ⌜ Line (now (out .entry)) 0 checkStateName (verdictFields (stateTold (now (net .entry)) (now (state .entry)))) [] (now (out .exit)) r ⌝ }
 {
     let mut told = [0u64; 2];
     menu::menu_check_state(net, state, &mut told);
-    begun(out, b"check_state", told[0], told[1])
+    line::put_line(out, 0, b"check_state", &told)
 }
 
 fn event(out: &mut [u8], net: &[u8], state: &mut [u8], first: u8, second: u8) -> usize
-    requires { ⌜ (lineMost < length (now out)) × (length (now state) ≤ sliceMost) ⌝ }
-    ensures { λ r. ⌜ r ≤ lineMost ⌝ }
+    requires { ⌜ replyMost (length (now state)) ≤ length (now out) ⌝ }
+    ensures { λ r. ⌜ r ≤ length (now (out .exit)) ⌝ }
+    ensures { λ r. ⌜ Line (now (out .entry)) 0 eventName (verdictFields (eventTold (now (net .entry)) (now (state .entry)) first second)) (eventLeft (now (net .entry)) (now (state .entry)) first second ∷ []) (now (out .exit)) r ⌝ }
+    ensures { λ _. ⌜ now (state .exit) ≡ eventLeft (now (net .entry)) (now (state .entry)) first second ⌝ }
 {
     let mut told = [0u64; 2];
     menu::menu_event(net, state, first, second, &mut told);
-    let at = begun(out, b"event", told[0], told[1]);
-    buffer(out, at, state)
+    line::put_line_with(out, 0, b"event", &told, state)
 }
 
 fn back(out: &mut [u8], net: &[u8], state: &mut [u8], first: u8, second: u8) -> usize
-    requires { ⌜ (lineMost < length (now out)) × (length (now state) ≤ sliceMost) ⌝ }
-    ensures { λ r. ⌜ r ≤ lineMost ⌝ }
+    requires { ⌜ replyMost (length (now state)) ≤ length (now out) ⌝ }
+    ensures { λ r. ⌜ r ≤ length (now (out .exit)) ⌝ }
+    ensures { λ r. ⌜ Line (now (out .entry)) 0 backName (verdictFields (backTold (now (net .entry)) (now (state .entry)) first second)) (backLeft (now (net .entry)) (now (state .entry)) first second ∷ []) (now (out .exit)) r ⌝ }
+    ensures { λ _. ⌜ now (state .exit) ≡ backLeft (now (net .entry)) (now (state .entry)) first second ⌝ }
 {
     let mut told = [0u64; 2];
     menu::menu_back(net, state, first, second, &mut told);
-    let at = begun(out, b"back", told[0], told[1]);
-    buffer(out, at, state)
+    line::put_line_with(out, 0, b"back", &told, state)
 }
 
 fn degree(out: &mut [u8], net: &[u8], state: &[u8], t: usize) -> usize
-    requires { ⌜ lineMost < length (now out) ⌝ }
-    ensures { λ r. ⌜ r ≤ lineMost ⌝ }
+    requires { ⌜ replyMost 0 ≤ length (now out) ⌝ }
+    ensures { λ r. ⌜ r ≤ length (now (out .exit)) ⌝ }
+    ensures { λ r. ⌜ Line (now (out .entry)) 0 degreeName (degreeFields (degreeTold (now (net .entry)) (now (state .entry)) t)) [] (now (out .exit)) r ⌝ }
 {
     let mut told = [0u64; 3];
     menu::menu_degree(net, state, t, &mut told);
-    let at = begun(out, b"degree", told[0], told[1]);
-    line::put_field(out, at, told[2])
+    line::put_line(out, 0, b"degree", &told)
 }
 
-// The two words, the number of set bits of each, the lowest of each, and the standing.
 fn owed(out: &mut [u8], net: &[u8], state: &[u8]) -> usize
-    requires { ⌜ lineMost < length (now out) ⌝ }
-    ensures { λ r. ⌜ r ≤ lineMost ⌝ }
+    requires { ⌜ replyMost 0 ≤ length (now out) ⌝ }
+    ensures { λ r. ⌜ r ≤ length (now (out .exit)) ⌝ }
+    ensures { λ r. ⌜ Line (now (out .entry)) 0 owedName (owedFields (owedTold (now (net .entry)) (now (state .entry)))) [] (now (out .exit)) r ⌝ }
 {
     let mut told = [0u64; 9];
     menu::menu_owed(net, state, &mut told);
-    let at = begun(out, b"owed", told[0], told[1]);
-    let words = pair(out, at, told[2], told[3]);
-    let ones = pair(out, words, told[4], told[5]);
-    let lowest = pair(out, ones, told[6], told[7]);
-    line::put_field(out, lowest, told[8])
+    line::put_line(out, 0, b"owed", &told)
 }
 
 fn run(out: &mut [u8], net: &[u8], state: &mut [u8], log: &[u8]) -> usize
-    requires { ⌜ (lineMost < length (now out)) × (length (now state) ≤ sliceMost) ⌝ }
-    ensures { λ r. ⌜ r ≤ lineMost ⌝ }
+    requires { ⌜ replyMost (length (now state)) ≤ length (now out) ⌝ }
+    ensures { λ r. ⌜ r ≤ length (now (out .exit)) ⌝ }
+    ensures { λ r. ⌜ Line (now (out .entry)) 0 runName (toldFields (runTold (now (net .entry)) (now (state .entry)) (now (log .entry)))) (runLeft (now (net .entry)) (now (state .entry)) (now (log .entry)) ∷ []) (now (out .exit)) r ⌝ }
+    ensures { λ _. ⌜ now (state .exit) ≡ runLeft (now (net .entry)) (now (state .entry)) (now (log .entry)) ⌝ }
 {
     let mut told = [0u64; 4];
     menu::menu_run(net, state, log, &mut told);
-    let at = begun(out, b"run", told[0], told[1]);
-    let ticks = pair(out, at, told[2], told[3]);
-    buffer(out, ticks, state)
+    line::put_line_with(out, 0, b"run", &told, state)
 }
 
 fn walk(out: &mut [u8], net: &[u8], state: &mut [u8], log: &[u8], n: usize) -> usize
-    requires { ⌜ (lineMost < length (now out)) × (length (now state) ≤ sliceMost) ⌝ }
-    ensures { λ r. ⌜ r ≤ lineMost ⌝ }
+    requires { ⌜ replyMost (length (now state)) ≤ length (now out) ⌝ }
+    ensures { λ r. ⌜ r ≤ length (now (out .exit)) ⌝ }
+    ensures { λ r. ⌜ Line (now (out .entry)) 0 walkName (toldFields (walkTold (now (net .entry)) (now (state .entry)) (now (log .entry)) n)) (walkLeft (now (net .entry)) (now (state .entry)) (now (log .entry)) n ∷ []) (now (out .exit)) r ⌝ }
+    ensures { λ _. ⌜ now (state .exit) ≡ walkLeft (now (net .entry)) (now (state .entry)) (now (log .entry)) n ⌝ }
 {
     let mut told = [0u64; 4];
     menu::menu_walk(net, state, log, n, &mut told);
-    let at = begun(out, b"walk", told[0], told[1]);
-    let ticks = pair(out, at, told[2], told[3]);
-    buffer(out, ticks, state)
+    line::put_line_with(out, 0, b"walk", &told, state)
 }
 
 fn step(out: &mut [u8], log: &[u8], k: usize) -> usize
-    requires { ⌜ lineMost < length (now out) ⌝ }
-    ensures { λ r. ⌜ r ≤ lineMost ⌝ }
+    requires { ⌜ replyMost 0 ≤ length (now out) ⌝ }
+    ensures { λ r. ⌜ r ≤ length (now (out .exit)) ⌝ }
+    ensures { λ r. ⌜ Line (now (out .entry)) 0 stepName (stepFields (stepTold (now (log .entry)) k)) [] (now (out .exit)) r ⌝ }
 {
     let mut told = [0u64; 4];
     menu::menu_step(log, k, &mut told);
-    let at = begun(out, b"step", told[0], told[1]);
-    pair(out, at, told[2], told[3])
+    line::put_line(out, 0, b"step", &told)
 }
 
-// The answer to a request of a known kind, at the buffer's front.
-fn fields(
+// The line of a request of a known kind, at the buffer's front.
+pub fn answer(
     out: &mut [u8],
     kind: u8,
     first: usize,
@@ -151,8 +127,10 @@ fn fields(
     state: &mut [u8],
     log: &[u8],
 ) -> usize
-    requires { ⌜ (lineMost < length (now out)) × (length (now state) ≤ sliceMost) ⌝ }
-    ensures { λ r. ⌜ r ≤ lineMost ⌝ }
+    requires { ⌜ replyMost (length (now state)) ≤ length (now out) ⌝ }
+    ensures { λ r. ⌜ r ≤ length (now (out .exit)) ⌝ }
+    ensures { λ r. ⌜ Replied (replyTo kind first second (now (net .entry)) (now (state .entry)) (now (log .entry))) (now (out .entry)) (now (out .exit)) r ⌝ }
+    ensures { λ _. ⌜ now (state .exit) ≡ replyTo kind first second (now (net .entry)) (now (state .entry)) (now (log .entry)) .left ⌝ }
 {
     match kind {
         1 => check_net(out, net),
@@ -167,32 +145,4 @@ fn fields(
         9 => walk(out, net, state, log, first),
         _ => step(out, log, first),
     }
-}
-
-// The line of a request whose slices stand at the front of their buffers.
-pub fn answer(
-    out: &mut [u8],
-    kind: u8,
-    request: Request,
-    net: &[u8],
-    state: &mut [u8],
-    log: &[u8],
-) -> usize
-    requires { ⌜ (lineMost < length (now out)) × (length (now state) ≤ sliceMost) ⌝ }
-    requires { ⌜ (request .net ≤ length (now net)) × (request .state ≤ length (now state)) × (request .log ≤ length (now log)) ⌝ }
-    ensures { λ r. ⌜ r ≤ length (now (out .exit)) ⌝ }
-{
-    let n = request.net;
-    let s = request.state;
-    let l = request.log;
-    let end = fields(
-        out,
-        kind,
-        request.first,
-        request.second,
-        &net[..n],
-        &mut state[..s],
-        &log[..l],
-    );
-    line::put_byte(out, end, b'\n')
 }

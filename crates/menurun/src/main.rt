@@ -1,5 +1,6 @@
 // Reads a net and then a log from standard input, runs the log from the net's initial state, and prints how it ended. What is told, and
 // every byte of the lines, is decided and proved in the crate replay. Here is only what reads and writes.
+use forms::places;
 use libc::STDIN_FILENO;
 use libc::STDOUT_FILENO;
 use replay::lines;
@@ -12,10 +13,7 @@ ghost use Rattle.replay.specs.Replayed.{enough, longestState};
 ghost use Rattle.replay.specs.Lines.{Reads, leastBuffer};
 
 // The longest net, the longest log and a byte more: what a program does not read behind them changes no answer (`CutOff` of replay).
-const INPUT_MOST: usize = 56_461;
-
-// The longest state.
-const STATE_MOST: usize = 8_328;
+const INPUT_MOST: usize = places::LONGEST_NET + places::LONGEST_LOG + 1;
 
 // Writes the first page, and the lines of the counts that are still to come: a buffer at a time, since by the bound of a line they might be
 // more than one has room for.
@@ -50,7 +48,7 @@ fn answer(arrived: &mut [u8], state: &mut [u8], out: &mut [u8])
 
 fn main() {
     let mut arrived = [0u8; INPUT_MOST];
-    let mut state = [0u8; STATE_MOST];
+    let mut state = [0u8; places::LONGEST_STATE];
     let mut out = io::large_buffer();
     answer(&mut arrived, &mut state, &mut out);
 }

@@ -1,7 +1,7 @@
 -- Each public function's promise determines its answer and every byte lent to it.
 -- Assumes nothing.
 use mathlib.Core.Path.{_≡_, refl, sym, _∙_}
-use mathlib.Core.List.{List}
+use mathlib.Core.List.{List, []}
 use Prim.Native.Nat.{ℕ, _+_}
 use denote.Ref.{now}
 use Rattle.model.proofs.Determined.{Determined, LeavesOne}
@@ -56,12 +56,12 @@ replay-leaves κs args x y s s′ p q = p .1 ∙ sym (q .1)
 opens-once : (before : List ℕ) (told : Replayed) (state after after′ : List ℕ) (end end′ : ℕ) → Opens before told state after end
     → Opens before told state after′ end′ → (after ≡ after′) × (end ≡ end′)
 opens-once before told state after after′ end end′ (alone e l) (alone f m) =
-    line-once before 0 resultName (resultFields told) after after′ end end′ l m
+    line-once before 0 resultName (resultFields told) [] after after′ end end′ l m
 opens-once before told state after after′ end end′ (alone e l) (both f m n) = not-both e f
 opens-once before told state after after′ end end′ (both e l k) (alone f m) = not-both f e
 opens-once before told state after after′ end end′ (both {between = b} {at = a} e l k) (both {between = b₂} {at = a₂} f m n) =
-    let (stands, ends) = line-once before 0 resultName (resultFields told) b₂ b a₂ a m l in
-    line-once b a marksName (marksFields state) after after′ end end′ k (rw (stands, ends) at n)
+    let (stands, ends) = line-once before 0 resultName (resultFields told) [] b₂ b a₂ a m l in
+    line-once b a marksName (marksFields state) [] after after′ end end′ k (rw (stands, ends) at n)
 
 -- as many lines of counts as there is room for
 runs-once : (s : List ℕ) (cells : ℕ) (b : List ℕ) (at cell : ℕ) (after after′ : List ℕ) (end end′ next next′ : ℕ)
@@ -70,23 +70,23 @@ runs-once s cells b at cell after after′ end end′ next next′ (stop e) (sto
 runs-once s cells b at cell after after′ end end′ next next′ (stop e) (more f m q) = not-both f e
 runs-once s cells b at cell after after′ end end′ next next′ (more e l r) (stop f) = not-both e f
 runs-once s cells b at cell after after′ end end′ next next′ (more {b₁} {at₁} e l r) (more {b₁ = b₂} {at₁ = at₂} f m q) =
-    let (stands, ends) = line-once b at runName (cellFields s cell) b₂ b₁ at₂ at₁ m l in
+    let (stands, ends) = line-once b at runName (cellFields s cell) [] b₂ b₁ at₂ at₁ m l in
     runs-once s cells b₁ at₁ (nextRunning s cells (cell + 1)) after after′ end end′ next next′ r (rw (stands, ends) at q)
 
 same-filled : (x y : Filled) → x .end ≡ y .end → x .next ≡ y .next → x ≡ y
 same-filled x y e n = λ i. record { end = e i; next = n i }
 
 pub result-determined : Determined 1 result-kinds.ps result-kinds.r result.Learnt
-result-determined κs args x y s s′ p q = line-once _ _ _ _ (now (s .0)) (now (s′ .0)) x y (p .1) (q .1) .1
+result-determined κs args x y s s′ p q = line-once _ _ _ _ _ (now (s .0)) (now (s′ .0)) x y (p .1) (q .1) .1
 
 pub result-leaves : LeavesOne 1 result-kinds.ps result-kinds.r result.Learnt (λ κs s. now (s .0))
-result-leaves κs args x y s s′ p q = line-once _ _ _ _ (now (s .0)) (now (s′ .0)) x y (p .1) (q .1) .0
+result-leaves κs args x y s s′ p q = line-once _ _ _ _ _ (now (s .0)) (now (s′ .0)) x y (p .1) (q .1) .0
 
 pub marks-determined : Determined 2 marks-kinds.ps marks-kinds.r marks.Learnt
-marks-determined κs args x y s s′ p q = line-once _ _ _ _ (now (s .0)) (now (s′ .0)) x y (p .1) (q .1) .1
+marks-determined κs args x y s s′ p q = line-once _ _ _ _ _ (now (s .0)) (now (s′ .0)) x y (p .1) (q .1) .1
 
 pub marks-leaves : LeavesOne 2 marks-kinds.ps marks-kinds.r marks.Learnt (λ κs s. now (s .0))
-marks-leaves κs args x y s s′ p q = line-once _ _ _ _ (now (s .0)) (now (s′ .0)) x y (p .1) (q .1) .0
+marks-leaves κs args x y s s′ p q = line-once _ _ _ _ _ (now (s .0)) (now (s′ .0)) x y (p .1) (q .1) .0
 
 pub opening-determined : Determined 2 opening-kinds.ps opening-kinds.r opening.Learnt
 opening-determined κs args x y s s′ p q = opens-once _ _ _ (now (s .0)) (now (s′ .0)) x y (p .1) (q .1) .1
@@ -101,16 +101,16 @@ pub next-running-determined : Determined 1 next-running-kinds.ps next-running-ki
 next-running-determined κs args x y s s′ p q = p .0 ∙ sym (q .0)
 
 pub run-determined : Determined 1 run-kinds.ps run-kinds.r run.Learnt
-run-determined κs args x y s s′ p q = line-once _ _ _ _ (now (s .0)) (now (s′ .0)) x y (p .1) (q .1) .1
+run-determined κs args x y s s′ p q = line-once _ _ _ _ _ (now (s .0)) (now (s′ .0)) x y (p .1) (q .1) .1
 
 pub run-leaves : LeavesOne 1 run-kinds.ps run-kinds.r run.Learnt (λ κs s. now (s .0))
-run-leaves κs args x y s s′ p q = line-once _ _ _ _ (now (s .0)) (now (s′ .0)) x y (p .1) (q .1) .0
+run-leaves κs args x y s s′ p q = line-once _ _ _ _ _ (now (s .0)) (now (s′ .0)) x y (p .1) (q .1) .0
 
 pub run-of-determined : Determined 2 run-of-kinds.ps run-of-kinds.r run-of.Learnt
-run-of-determined κs args x y s s′ p q = line-once _ _ _ _ (now (s .0)) (now (s′ .0)) x y (p .1) (q .1) .1
+run-of-determined κs args x y s s′ p q = line-once _ _ _ _ _ (now (s .0)) (now (s′ .0)) x y (p .1) (q .1) .1
 
 pub run-of-leaves : LeavesOne 2 run-of-kinds.ps run-of-kinds.r run-of.Learnt (λ κs s. now (s .0))
-run-of-leaves κs args x y s s′ p q = line-once _ _ _ _ (now (s .0)) (now (s′ .0)) x y (p .1) (q .1) .0
+run-of-leaves κs args x y s s′ p q = line-once _ _ _ _ _ (now (s .0)) (now (s′ .0)) x y (p .1) (q .1) .0
 
 pub runs-determined : Determined 2 runs-kinds.ps runs-kinds.r runs.Learnt
 runs-determined κs args x y s s′ p q =

@@ -25,9 +25,9 @@ figure : (n : ℕ) → n < 10 → Fewest 10 1 n 1
 figure n h = (omega arith, omega arith, λ l. absurd (omega arith))
 
 -- the line of the result, at the front of a buffer
-result-at : (rest : List ℕ) → Line (zeros 18 ++ rest) 0 resultName (resultFields (result 13 7 2 1 3)) (resultText ++ rest) 18
+result-at : (rest : List ℕ) → Line (zeros 18 ++ rest) 0 resultName (resultFields (result 13 7 2 1 3)) [] (resultText ++ rest) 18
 result-at rest = record {
-  unended = _;
+  numbered = _;
   last = 17;
   fields =
       more (spell _ _ 13 2 (omega arith, omega arith, λ l. omega arith))
@@ -40,9 +40,9 @@ result-at rest = record {
 }
 
 -- the line of a count of one figure, at the front of a buffer
-older-line : (rest : List ℕ) → Line (zeros 10 ++ rest) 0 runName (0 ∷ 3 ∷ 2 ∷ []) (olderText ++ rest) 10
+older-line : (rest : List ℕ) → Line (zeros 10 ++ rest) 0 runName (0 ∷ 3 ∷ 2 ∷ []) [] (olderText ++ rest) 10
 older-line rest = record {
-  unended = _;
+  numbered = _;
   last = 9;
   fields =
       more (spell _ _ 0 1 (figure 0 (omega arith)))
@@ -57,7 +57,7 @@ unfolding word countAt countOf nextRunning lowest tab
 line-edges = record {
   result-line = result-at (zeros 2);
   marks-line = record {
-    unended = _;
+    numbered = _;
     last = 12;
     fields =
         more (spell _ _ 0 1 (figure 0 (omega arith)))
@@ -69,7 +69,7 @@ line-edges = record {
   alone =
       early refl
       (record {
-        unended = _;
+        numbered = _;
         last = 17;
         fields =
             more (spell _ _ 10 2 (omega arith, omega arith, λ l. omega arith))
@@ -83,7 +83,7 @@ line-edges = record {
   both =
       late {between = resultText ++ zeros 16} {at = 18} refl (result-at (zeros 16))
       (record {
-        unended = _;
+        numbered = _;
         last = 29;
         fields =
             more (spell _ _ 0 1 (figure 0 (omega arith)))
@@ -101,7 +101,7 @@ line-edges = record {
       further {b₁ = olderText ++ zeros 70} {at₁ = 10} refl (older-line (zeros 70))
       (further {b₁ = olderText ++ fresherText ++ zeros 58} {at₁ = 22} refl
       (record {
-        unended = _;
+        numbered = _;
         last = 21;
         fields =
             more (spell _ _ 1 1 (figure 1 (omega arith)))

@@ -89,8 +89,8 @@ twoRunning = set (set (set rowState 21 2) 22 1) 23 44
 
 pub record LineEdges : Type 0 where
   -- each field of the result has its own place
-  pub result-line : Line (zeros 20) 0 resultName (resultFields (result 13 7 2 1 3)) (resultText ++ zeros 2) 18
-  pub marks-line : Line (zeros 14) 1 marksName (marksFields atRest) (0 ∷ marksText ++ zeros 1) 13
+  pub result-line : Line (zeros 20) 0 resultName (resultFields (result 13 7 2 1 3)) [] (resultText ++ zeros 2) 18
+  pub marks-line : Line (zeros 14) 1 marksName (marksFields atRest) [] (0 ∷ marksText ++ zeros 1) 13
   -- for 10 only the first line, and no count is looked at; else the markings too, and every count
   pub alone : Opens (zeros 20) (refusedBy 10) rowState (earlyText ++ zeros 2) 18
   pub both : Opens (zeros 34) (result 13 7 2 1 3) atRest (resultText ++ marksText ++ zeros 4) 30

@@ -15,7 +15,7 @@ use Rattle.model.specs.Net.{Net, width, tokens, count}
 use Rattle.forms.specs.Word.{byte, word}
 use Rattle.forms.specs.Places.{markAt, countAt}
 use Rattle.forms.specs.Stored.{stateOf}
-use Rattle.text.specs.Lines.{fieldMost, Line}
+use Rattle.text.specs.Lines.{lineMost, Line}
 use Rattle.replay.specs.declared.input.Replayed.{Replayed}
 use Rattle.replay.specs.Replayed.{early?, Shown}
 
@@ -23,17 +23,17 @@ use Rattle.replay.specs.Replayed.{early?, Shown}
 abbrev pub LateShown : ℕ → List ℕ → Type 0
 LateShown number state = early? number ≡ false → Shown state
 
--- HOW LONG THE LINES ARE AT MOST, their ends included: beside the fields each number is the length of the line's name
+-- HOW LONG THE LINES ARE AT MOST, by the length of the name and how many numbers there are
 
 abbrev pub resultMost : ℕ
-resultMost = 6 + 5 * fieldMost + 1
+resultMost = lineMost 6 5
 
 -- a field for each place, and the byte that says how many there are is at most 255
 abbrev pub marksMost : ℕ
-marksMost = 5 + 255 * fieldMost + 1
+marksMost = lineMost 5 255
 
 abbrev pub runMost : ℕ
-runMost = 3 + 3 * fieldMost + 1
+runMost = lineMost 3 3
 
 -- the first two lines are put into the buffer without a look at the room that is left
 abbrev pub leastBuffer : ℕ
@@ -57,9 +57,9 @@ marksFields state = tab (byte state 5) (λ p. word state (markAt p))
 
 -- the two stand at the buffer's front; for 1 to 10 only the first
 pub data Opens (before : List ℕ) (told : Replayed) (state after : List ℕ) (end : ℕ) : Type 0 where
-  alone : early? (told .number) ≡ true → Line before 0 resultName (resultFields told) after end → Opens before told state after end
-  both : {between : List ℕ} {at : ℕ} → early? (told .number) ≡ false → Line before 0 resultName (resultFields told) between at
-      → Line between at marksName (marksFields state) after end → Opens before told state after end
+  alone : early? (told .number) ≡ true → Line before 0 resultName (resultFields told) [] after end → Opens before told state after end
+  both : {between : List ℕ} {at : ℕ} → early? (told .number) ≡ false → Line before 0 resultName (resultFields told) [] between at
+      → Line between at marksName (marksFields state) [] after end → Opens before told state after end
 
 -- THE OTHERS: `run`, and transition, age, count
 
@@ -113,7 +113,7 @@ goes-on? cells b at cell = ltb cell cells && leb (at + runMost) (length b)
 pub data RunLines (state : List ℕ) (cells : ℕ) : List ℕ → ℕ → ℕ → List ℕ → ℕ → ℕ → Type 0 where
   stop : {b : List ℕ} {at cell : ℕ} → goes-on? cells b at cell ≡ false → RunLines state cells b at cell b at cell
   more : {b b₁ b′ : List ℕ} {at at₁ end cell next : ℕ} → goes-on? cells b at cell ≡ true
-      → Line b at runName (cellFields state cell) b₁ at₁ → RunLines state cells b₁ at₁ (nextRunning state cells (cell + 1)) b′ end next
+      → Line b at runName (cellFields state cell) [] b₁ at₁ → RunLines state cells b₁ at₁ (nextRunning state cells (cell + 1)) b′ end next
       → RunLines state cells b at cell b′ end next
 
 -- so many cells can be read: none, or those of a state that can be shown

@@ -2,7 +2,6 @@
 use engine::calls;
 use forms::places;
 use forms::words;
-use model::net::Net;
 ghost use mathlib.Core.Path.{_≡_};
 ghost use Prim.Native.Nat.{_≤_};
 ghost use lib.ListN.{length};
@@ -31,7 +30,7 @@ pub fn net_length(input: &[u8]) -> usize
         return 0;
     }
     let field = words::read32(input, 1);
-    if places::row_at(Net::MAX_PLACES, Net::MAX_TRANSITIONS) < field {
+    if places::LONGEST_NET < field {
         return 0;
     }
     if input.len() < field {

@@ -8,9 +8,10 @@ use model::age::Age;
 use model::net::Net;
 use text::line;
 ghost use mathlib.Core.Path.{_≡_};
+ghost use mathlib.Core.List.{[]};
 ghost use Prim.Native.Nat.{_+_, _*_, _<_, _≤_};
 ghost use lib.ListN.{length};
-ghost use Rattle.text.specs.Lines.{fieldMost, Fields, Line};
+ghost use Rattle.text.specs.Lines.{Line};
 ghost use Rattle.replay.specs.Replayed.{Shown};
 ghost use Rattle.replay.specs.Lines.{resultName, resultFields, marksName, marksFields, runName, runFields, cellFields};
 ghost use Rattle.replay.specs.Lines.{LateShown, Opens, shapeIn, cellsIn, countOf, cellsShown, nextRunning, RunLines, Reads};
@@ -25,29 +26,20 @@ pub struct Filled {
     pub next: usize,
 }
 
-// The five fields of the result.
-fn fields(out: &mut [u8], at: usize, told: Replayed) -> usize
-    requires { ⌜ at + 5 * fieldMost ≤ length (now out) ⌝ }
-    ensures { λ r. ⌜ r ≤ at + 5 * fieldMost ⌝ }
-    ensures { λ r. ⌜ Fields (now (out .entry)) at (resultFields told) (now (out .exit)) r ⌝ }
-{
-    // each name is the place behind that field
-    let number = line::put_field(out, at, told.number as u64);
-    let index = line::put_field(out, number, told.index as u64);
-    let done = line::put_field(out, index, told.done as u64);
-    let ticks = line::put_field(out, done, told.ticks as u64);
-    line::put_field(out, ticks, told.standing as u64)
-}
-
 // The line of the result, at the buffer's front.
 pub fn result(out: &mut [u8], told: Replayed) -> usize
     requires { ⌜ resultMost ≤ length (now out) ⌝ }
     ensures { λ r. ⌜ r ≤ resultMost ⌝ }
-    ensures { λ r. ⌜ Line (now (out .entry)) 0 resultName (resultFields told) (now (out .exit)) r ⌝ }
+    ensures { λ r. ⌜ Line (now (out .entry)) 0 resultName (resultFields told) [] (now (out .exit)) r ⌝ }
 {
-    let name = line::put_bytes(out, 0, b"result");
-    let end = fields(out, name, told);
-    line::put_byte(out, end, b'\n')
+    let numbers = [
+        told.number as u64,
+        told.index as u64,
+        told.done as u64,
+        told.ticks as u64,
+        told.standing as u64,
+    ];
+    line::put_line(out, 0, b"result", &numbers)
 }
 
 // The line of the markings, place by place.
@@ -55,7 +47,7 @@ pub fn marks(out: &mut [u8], at: usize, state: &[u8]) -> usize
     requires { ⌜ at + marksMost ≤ length (now out) ⌝ }
     requires { ⌜ Shown (now state) ⌝ }
     ensures { λ r. ⌜ r ≤ at + marksMost ⌝ }
-    ensures { λ r. ⌜ Line (now (out .entry)) at marksName (marksFields (now (state .entry))) (now (out .exit)) r ⌝ }
+    ensures { λ r. ⌜ Line (now (out .entry)) at marksName (marksFields (now (state .entry))) [] (now (out .exit)) r ⌝ }
 {
     let places = words::wide(state[places::PLACES_AT]);
     let mut end = line::put_bytes(out, at, b"marks");
@@ -142,14 +134,10 @@ pub fn next_running(state: &[u8], cells: usize, from: usize) -> usize
 pub fn run(out: &mut [u8], at: usize, t: usize, age: Age, count: usize) -> usize
     requires { ⌜ at + runMost ≤ length (now out) ⌝ }
     ensures { λ r. ⌜ r ≤ at + runMost ⌝ }
-    ensures { λ r. ⌜ Line (now (out .entry)) at runName (runFields t age count) (now (out .exit)) r ⌝ }
+    ensures { λ r. ⌜ Line (now (out .entry)) at runName (runFields t age count) [] (now (out .exit)) r ⌝ }
 {
-    let ticks = age.0 as u64;
-    let name = line::put_bytes(out, at, b"run");
-    let transition = line::put_field(out, name, t as u64);
-    let aged = line::put_field(out, transition, ticks);
-    let counted = line::put_field(out, aged, count as u64);
-    line::put_byte(out, counted, b'\n')
+    let numbers = [t as u64, age.0 as u64, count as u64];
+    line::put_line(out, at, b"run", &numbers)
 }
 
 // The line of a cell.
@@ -158,7 +146,7 @@ pub fn run_of(out: &mut [u8], at: usize, state: &[u8], cell: usize) -> usize
     requires { ⌜ Shown (now state) ⌝ }
     requires { ⌜ cell < cellsIn (now state) ⌝ }
     ensures { λ r. ⌜ r ≤ at + runMost ⌝ }
-    ensures { λ r. ⌜ Line (now (out .entry)) at runName (cellFields (now (state .entry)) cell) (now (out .exit)) r ⌝ }
+    ensures { λ r. ⌜ Line (now (out .entry)) at runName (cellFields (now (state .entry)) cell) [] (now (out .exit)) r ⌝ }
 {
     let width = words::wide(state[places::WIDTH_AT]);
     let age = Age((cell % width) as u8);

@@ -8,7 +8,7 @@ use lib.ListN.{length, set}
 use lib.Seq.{paste}
 use Rattle.model.proofs.Determined.{Determined, LeavesOne}
 use Rattle.io.specs.Digits.{digits}
-use Rattle.text.specs.Lines.{space, lineEnd, Spelt, Fields, Line}
+use Rattle.text.specs.Lines.{space, lineEnd, Spelt, Fields, allBuffered, behindBuffers, Line}
 use Rattle.text.specs.Lines.Fields.{none, more}
 use Rattle.text.proofs.Figures.{fewest-once}
 use Rattle.text.proofs.line.put_byte.Reads as put-byte
@@ -19,8 +19,16 @@ use Rattle.text.proofs.line.put_decimal.Reads as put-decimal
 use Rattle.text.proofs.line.put_decimal.Kinds as put-decimal-kinds
 use Rattle.text.proofs.line.put_field.Reads as put-field
 use Rattle.text.proofs.line.put_field.Kinds as put-field-kinds
+use Rattle.text.proofs.line.put_fields.Reads as put-fields
+use Rattle.text.proofs.line.put_fields.Kinds as put-fields-kinds
 use Rattle.text.proofs.line.put_hex.Reads as put-hex
 use Rattle.text.proofs.line.put_hex.Kinds as put-hex-kinds
+use Rattle.text.proofs.line.put_buffer.Reads as put-buffer
+use Rattle.text.proofs.line.put_buffer.Kinds as put-buffer-kinds
+use Rattle.text.proofs.line.put_line.Reads as put-line
+use Rattle.text.proofs.line.put_line.Kinds as put-line-kinds
+use Rattle.text.proofs.line.put_line_with.Reads as put-line-with
+use Rattle.text.proofs.line.put_line_with.Kinds as put-line-with-kinds
 
 -- a number is spelt in one way
 module _ (before : List ℕ) (at n : ℕ) (after after′ : List ℕ) (end end′ : ℕ) (a : Spelt before at n after end) (b : Spelt before at n after′ end′) where
@@ -54,13 +62,14 @@ fields-once (n ∷ ns) before at after after′ end end′ f g =
     let ends : at₂ ≡ at₁ = spelt-ends (set before at space) (at + 1) n b₂ b₁ at₂ at₁ s′ s in
     fields-once ns b₁ at₁ after after′ end end′ rest (rw (stands, ends) at rest′)
 
-pub line-once : (before : List ℕ) (at : ℕ) (name ns after after′ : List ℕ) (end end′ : ℕ) → Line before at name ns after end
-    → Line before at name ns after′ end′ → (after ≡ after′) × (end ≡ end′)
-line-once before at name ns after after′ end end′ l m =
+pub line-once : (before : List ℕ) (at : ℕ) (name ns : List ℕ) (buffers : List (List ℕ)) (after after′ : List ℕ) (end end′ : ℕ)
+    → Line before at name ns buffers after end → Line before at name ns buffers after′ end′ → (after ≡ after′) × (end ≡ end′)
+line-once before at name ns buffers after after′ end end′ l m =
     let (stands, ends) =
-    fields-once ns (paste before at name (length name)) (at + length name) (l .unended) (m .unended) (l .last) (m .last) (l .fields) (m .fields) in (
-      l .ended ∙ ap (λ (b : List ℕ). set b (l .last) lineEnd) stands ∙ ap (λ (k : ℕ). set (m .unended) k lineEnd) ends ∙ sym (m .ended),
-      l .ends ∙ ap (λ (k : ℕ). k + 1) ends ∙ sym (m .ends),
+    fields-once ns (paste before at name (length name)) (at + length name) (l .numbered) (m .numbered) (l .last) (m .last) (l .fields) (m .fields) in
+    let whole : List ℕ → ℕ → List ℕ = λ b k. set (allBuffered b k buffers) (behindBuffers k buffers) lineEnd in (
+      l .ended ∙ ap (λ (b : List ℕ). whole b (l .last)) stands ∙ ap (λ (k : ℕ). whole (m .numbered) k) ends ∙ sym (m .ended),
+      l .ends ∙ ap (λ (k : ℕ). behindBuffers k buffers + 1) ends ∙ sym (m .ends),
     )
 
 pub put-byte-determined : Determined 1 put-byte-kinds.ps put-byte-kinds.r put-byte.Learnt
@@ -92,3 +101,27 @@ put-hex-determined κs args x y s s′ p q = p .0 ∙ sym (q .0)
 
 pub put-hex-leaves : LeavesOne 2 put-hex-kinds.ps put-hex-kinds.r put-hex.Learnt (λ κs s. now (s .0))
 put-hex-leaves κs args x y s s′ p q = p .1 ∙ sym (q .1)
+
+pub put-fields-determined : Determined 2 put-fields-kinds.ps put-fields-kinds.r put-fields.Learnt
+put-fields-determined κs args x y s s′ p q = fields-once _ _ _ (now (s .0)) (now (s′ .0)) x y (p .1) (q .1) .1
+
+pub put-fields-leaves : LeavesOne 2 put-fields-kinds.ps put-fields-kinds.r put-fields.Learnt (λ κs s. now (s .0))
+put-fields-leaves κs args x y s s′ p q = fields-once _ _ _ (now (s .0)) (now (s′ .0)) x y (p .1) (q .1) .0
+
+pub put-buffer-determined : Determined 2 put-buffer-kinds.ps put-buffer-kinds.r put-buffer.Learnt
+put-buffer-determined κs args x y s s′ p q = p .0 .0 ∙ sym (q .0 .0)
+
+pub put-buffer-leaves : LeavesOne 2 put-buffer-kinds.ps put-buffer-kinds.r put-buffer.Learnt (λ κs s. now (s .0))
+put-buffer-leaves κs args x y s s′ p q = p .1 ∙ sym (q .1)
+
+pub put-line-determined : Determined 3 put-line-kinds.ps put-line-kinds.r put-line.Learnt
+put-line-determined κs args x y s s′ p q = line-once _ _ _ _ _ (now (s .0)) (now (s′ .0)) x y (p .1) (q .1) .1
+
+pub put-line-leaves : LeavesOne 3 put-line-kinds.ps put-line-kinds.r put-line.Learnt (λ κs s. now (s .0))
+put-line-leaves κs args x y s s′ p q = line-once _ _ _ _ _ (now (s .0)) (now (s′ .0)) x y (p .1) (q .1) .0
+
+pub put-line-with-determined : Determined 4 put-line-with-kinds.ps put-line-with-kinds.r put-line-with.Learnt
+put-line-with-determined κs args x y s s′ p q = line-once _ _ _ _ _ (now (s .0)) (now (s′ .0)) x y (p .1) (q .1) .1
+
+pub put-line-with-leaves : LeavesOne 4 put-line-with-kinds.ps put-line-with-kinds.r put-line-with.Learnt (λ κs s. now (s .0))
+put-line-with-leaves κs args x y s s′ p q = line-once _ _ _ _ _ (now (s .0)) (now (s′ .0)) x y (p .1) (q .1) .0

@@ -1,20 +1,22 @@
--- `serve` meets its contract: what the request says of its slices is what the answer asks.
+-- `serve` is safe and ends: what the request says of its slices is what the answer asks.
 -- Assumes nothing.
-use mathlib.Core.Path.{sym, _∙_}
 use native.Mathlib.Omega.{arith}
-use lib.Seq.{length-take-le}
+use Rattle.io.proofs.Counting.{front}
 use borrow.Author.Needs.{needs}
 use Rattle.menuask.proofs.serve.Statement.{statement}
 use Rattle.menuask.proofs.serve.Tie as tie
 
-next-requires : tie.Need-next-requires
-next-requires c κs = search needs
+slice-aggregate-read-full : tie.Need-slice-aggregate-read-full
+slice-aggregate-read-full c = search needs
 
-same-length : tie.Need-same-length
-same-length c = search needs
+read-full-requires : tie.Need-read-full-requires
+read-full-requires c κs = search needs
 
 returns : tie.Need-returns
 returns c = search needs
+
+array-read-read : tie.Need-array-read-read
+array-read-read c = search needs
 
 read-requires : tie.Need-read-requires
 read-requires c κs = search needs
@@ -25,11 +27,55 @@ slice-aggregate-write-all c = search needs
 write-all-requires : tie.Need-write-all-requires
 write-all-requires c κs = search needs
 
+same-length : tie.Need-same-length
+same-length c = search needs
+
 same-length-2 : tie.Need-same-length-2
 same-length-2 c = search needs
 
 same-length-3 : tie.Need-same-length-3
 same-length-3 c = search needs
+
+returns-2 : tie.Need-returns-2
+returns-2 c = search needs
+
+array-read-answer : tie.Need-array-read-answer
+array-read-answer c = search needs
+
+slice-reshare-prefix-answer : tie.Need-slice-reshare-prefix-answer
+slice-reshare-prefix-answer c = search needs
+
+slice-aggregate-answer : tie.Need-slice-aggregate-answer
+slice-aggregate-answer c = c .before .before .before .before .before .before .before .before .before .before .read .ensures .0 .1
+
+slice-relend-prefix-answer : tie.Need-slice-relend-prefix-answer
+slice-relend-prefix-answer c = search needs
+
+slice-aggregate-answer-2 : tie.Need-slice-aggregate-answer-2
+slice-aggregate-answer-2 c = c .before .before .before .before .before .before .before .before .before .before .before .read .ensures .1 .0 .1
+
+slice-reshare-prefix-answer-2 : tie.Need-slice-reshare-prefix-answer-2
+slice-reshare-prefix-answer-2 c = search needs
+
+slice-aggregate-answer-3 : tie.Need-slice-aggregate-answer-3
+slice-aggregate-answer-3 c = c .before .before .before .before .before .before .before .before .before .before .before .before .read .ensures .1 .1 .1
+
+answer-requires : tie.Need-answer-requires
+answer-requires c κs =
+    let read = c .before .before .before .before .before .before .before .before .before .before .before .before .read in
+    let e = c .before .before .before .before .before .before .before .before .before .before .before .before .before .before .before .before .before .before .before .before .before .before .before .before in
+    omega (arith, read .ensures .1 .0, read .kept .1 .1 .0, e .pre)
+
+slice-reshare-prefix-write-all : tie.Need-slice-reshare-prefix-write-all
+slice-reshare-prefix-write-all c = search needs
+
+slice-aggregate-write-all-2 : tie.Need-slice-aggregate-write-all-2
+slice-aggregate-write-all-2 c =
+    let answer = c .before .before .before .before .before .answer in
+    front (answer .result) (answer .last .0) (answer .ensures .0)
+
+write-all-requires-2 : tie.Need-write-all-requires-2
+write-all-requires-2 c κs = search needs
 
 same-length-4 : tie.Need-same-length-4
 same-length-4 c = search needs
@@ -37,92 +83,43 @@ same-length-4 c = search needs
 same-length-5 : tie.Need-same-length-5
 same-length-5 c = search needs
 
-returns-2 : tie.Need-returns-2
-returns-2 c = search needs
-
-answer-requires : tie.Need-answer-requires
-answer-requires c κs =
-    let e = c .before .before .before .before .before .before .before .before .before .before .before .before .before .before .before .before .before .before .before .before .before .before .before .before .before .before .before .before .before .before .before .before in
-    let r = c .before .before .before .before .before .before .before .before .before .before .before .before .before .before .before .read .ensures .1 in
-    ((e .pre .1 .0, omega arith), (r .0, r .1, r .2))
-
-slice-reshare-prefix-write-all : tie.Need-slice-reshare-prefix-write-all
-slice-reshare-prefix-write-all c = search needs
-
-slice-aggregate-write-all-2 : tie.Need-slice-aggregate-write-all-2
-slice-aggregate-write-all-2 c = sym (length-take-le (c .before .before .before .before .before .answer .result) (c .before .before .before .before .before .answer .last .0) (c .before .before .before .before .before .answer .ensures))
-
-write-all-requires-2 : tie.Need-write-all-requires-2
-write-all-requires-2 c κs = search needs
-
 same-length-6 : tie.Need-same-length-6
-same-length-6 c = c .before .before .before .before .before .before .before .before .before .before .before .before .before .before .before .before .before .before .before .before .before .before .before .read .kept .1 .0 ∙ c .before .before .before .before .before .before .before .before .before .before .before .before .before .before .before .before .before .before .before .before .before .before .before .before .before .before .before .before .before .before .before .before .before .next .kept .0
+same-length-6 c = search needs
 
 same-length-7 : tie.Need-same-length-7
 same-length-7 c = search needs
 
-same-length-8 : tie.Need-same-length-8
-same-length-8 c = search needs
-
-same-length-9 : tie.Need-same-length-9
-same-length-9 c = search needs
-
-same-length-10 : tie.Need-same-length-10
-same-length-10 c = search needs
-
 returns-3 : tie.Need-returns-3
 returns-3 c = search needs
-
-closed-requires : tie.Need-closed-requires
-closed-requires c κs = search needs
-
-same-length-11 : tie.Need-same-length-11
-same-length-11 c = c .before .before .before .before .before .before .before .before .before .before .before .before .before .before .before .before .before .before .before .before .before .before .before .before .read .kept .1 .0 ∙ c .before .before .before .before .before .before .before .before .before .before .before .before .before .before .before .before .before .before .before .before .before .before .before .before .before .before .before .before .before .before .before .before .before .before .next .kept .0
-
-same-length-12 : tie.Need-same-length-12
-same-length-12 c = search needs
-
-same-length-13 : tie.Need-same-length-13
-same-length-13 c = search needs
-
-same-length-14 : tie.Need-same-length-14
-same-length-14 c = search needs
-
-same-length-15 : tie.Need-same-length-15
-same-length-15 c = search needs
-
-returns-4 : tie.Need-returns-4
-returns-4 c = search needs
 
 pub serve-spec : {M : Type 1} → statement M
 serve-spec =
     tie.close
     (tie.spec
-    next-requires
-    same-length
+    slice-aggregate-read-full
+    read-full-requires
     returns
+    array-read-read
     read-requires
     slice-aggregate-write-all
     write-all-requires
+    same-length
     same-length-2
     same-length-3
-    same-length-4
-    same-length-5
     returns-2
+    array-read-answer
+    slice-reshare-prefix-answer
+    slice-aggregate-answer
+    slice-relend-prefix-answer
+    slice-aggregate-answer-2
+    slice-reshare-prefix-answer-2
+    slice-aggregate-answer-3
     answer-requires
     slice-reshare-prefix-write-all
     slice-aggregate-write-all-2
     write-all-requires-2
+    same-length-4
+    same-length-5
     same-length-6
     same-length-7
-    same-length-8
-    same-length-9
-    same-length-10
-    returns-3
-    closed-requires
-    same-length-11
-    same-length-12
-    same-length-13
-    same-length-14
-    same-length-15
-    returns-4)
+    returns-3)

@@ -1,23 +1,20 @@
 -- `serve_all` is safe and ends. The measure is the number of turns that are left.
 -- Assumes nothing.
 use mathlib.Core.Path.{_≡_, refl, _∙_}
-use Prim.Native.Nat.{_≤_}
-use native.Mathlib.Omega.{arith}
 use lib.ListN.{length}
 use borrow.Author.Needs.{needs}
 use Rattle.menuask.proofs.serve_all.Statement.{statement}
 use Rattle.menuask.proofs.serve_all.Tie as tie
 
 abbrev Inv-loop : tie.InvT-loop
-Inv-loop block₀ out₀ net₀ state₀ log₀ feed₀ turns₀ block out net state log feed turns =
-    ((feed .end ≤ length block) × (length block ≡ length block₀) × (length out ≡ length out₀))
-    × ((length net ≡ length net₀) × (length state ≡ length state₀) × (length log ≡ length log₀))
+Inv-loop out₀ net₀ state₀ log₀ goes-on₀ turns₀ out net state log goes-on turns =
+    (length out ≡ length out₀) × (length net ≡ length net₀) × (length state ≡ length state₀) × (length log ≡ length log₀)
 
 abbrev μ-loop : tie.MeasureT-loop
-μ-loop block₀ out₀ net₀ state₀ log₀ feed₀ turns₀ block out net state log feed turns = turns
+μ-loop out₀ net₀ state₀ log₀ goes-on₀ turns₀ out net state log goes-on turns = turns
 
 loop-holds : tie.Need-loop-holds Inv-loop μ-loop
-loop-holds c = ((omega arith, refl, refl), (refl, refl, refl))
+loop-holds c = (refl, refl, refl, refl)
 
 serve-requires : tie.Need-serve-requires Inv-loop μ-loop
 serve-requires c κs = search needs
@@ -30,11 +27,9 @@ loop-less c = search needs
 
 loop-again : tie.Need-loop-again Inv-loop μ-loop
 loop-again c =
-    let s = c .before .before .before .before .before .before .before .before .before .before .serve in
-    let inv = c .before .before .before .before .before .before .before .before .before .before .before .before .before .before .before .before .before .before .loop .inv in (
-      (s .ensures, s .kept .0 ∙ inv .0 .1, s .kept .1 .1 .0 ∙ inv .0 .2),
-      (s .kept .1 .1 .1 .0 ∙ inv .1 .0, s .kept .1 .1 .1 .1 .0 ∙ inv .1 .1, s .kept .1 .1 .1 .1 .1 .0 ∙ inv .1 .2),
-    )
+    let s = c .before .before .before .before .before .before .before .before .serve in
+    let inv = c .before .before .before .before .before .before .before .before .before .before .before .before .before .before .before .loop .inv in
+    (s .kept .0 ∙ inv .0, s .kept .1 .0 ∙ inv .1, s .kept .1 .1 .0 ∙ inv .2, s .kept .1 .1 .1 .0 ∙ inv .3)
 
 same-length : tie.Need-same-length Inv-loop μ-loop
 same-length c = search needs
@@ -48,11 +43,11 @@ same-length-3 c = search needs
 same-length-4 : tie.Need-same-length-4 Inv-loop μ-loop
 same-length-4 c = search needs
 
-same-length-5 : tie.Need-same-length-5 Inv-loop μ-loop
-same-length-5 c = search needs
-
 returns : tie.Need-returns Inv-loop μ-loop
 returns c = tt
+
+same-length-5 : tie.Need-same-length-5 Inv-loop μ-loop
+same-length-5 c = search needs
 
 same-length-6 : tie.Need-same-length-6 Inv-loop μ-loop
 same-length-6 c = search needs
@@ -62,12 +57,6 @@ same-length-7 c = search needs
 
 same-length-8 : tie.Need-same-length-8 Inv-loop μ-loop
 same-length-8 c = search needs
-
-same-length-9 : tie.Need-same-length-9 Inv-loop μ-loop
-same-length-9 c = search needs
-
-same-length-10 : tie.Need-same-length-10 Inv-loop μ-loop
-same-length-10 c = search needs
 
 returns-2 : tie.Need-returns-2 Inv-loop μ-loop
 returns-2 c = tt
@@ -87,11 +76,9 @@ serve-all-spec =
     same-length-2
     same-length-3
     same-length-4
-    same-length-5
     returns
+    same-length-5
     same-length-6
     same-length-7
     same-length-8
-    same-length-9
-    same-length-10
     returns-2)

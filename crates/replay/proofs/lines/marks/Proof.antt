@@ -11,7 +11,7 @@ use Rattle.forms.specs.Places.{markAt}
 use Rattle.text.specs.Lines.{fieldMost, Fields}
 use Rattle.text.proofs.Puts.{line-of}
 use Rattle.replay.specs.Lines.{marksName, marksFields, marksMost}
-use Rattle.replay.proofs.Marks.{fields-turn, fields-end, mark-inside}
+use Rattle.replay.proofs.Marks.{marks-turn, marks-end, mark-inside}
 use borrow.Author.Needs.{needs}
 use Rattle.replay.proofs.lines.marks.Statement.{statement}
 use Rattle.replay.proofs.lines.marks.Tie as tie
@@ -71,7 +71,7 @@ loop-again c =
       omega arith,
       λ b e rest.
           at .loop .inv .4 b e
-          (fields-turn (at .before .before .before .before .before .before .wide .result) f (at .loop .p) (at .loop .out) (put .last .0) b (at .loop .end) (put .result) e (read .result)
+          (marks-turn (at .before .before .before .before .before .before .wide .result) f (at .loop .p) (at .loop .out) (put .last .0) b (at .loop .end) (put .result) e (read .result)
           (c .before .before .before .before .before .before .loop-test .taken) (read .ensures .0 ∙ ap (word (a .state .now)) (c .before .before .before .before .before .mark-at .ensures)) (put .ensures .1) rest),
     )
 
@@ -91,7 +91,7 @@ returns c =
     let f : ℕ → ℕ = λ k. word (a .state .now) (markAt k) in
     let p = at .loop .p in
     let fields : Fields (name .last .0) (name .result) (tab (places .result) f) (at .loop .out) (at .loop .end) =
-    at .loop .inv .4 (at .loop .out) (at .loop .end) (fields-end (places .result) f p (at .loop .out) (at .loop .end) (c .before .before .before .before .loop-test .left) (at .loop .inv .0)) in (
+    at .loop .inv .4 (at .loop .out) (at .loop .end) (marks-end (places .result) f p (at .loop .out) (at .loop .end) (c .before .before .before .before .loop-test .left) (at .loop .inv .0)) in (
       omega arith,
       line-of (a .out .now) (a .at) marksName (marksFields (a .state .now)) (name .last .0) (name .result) (at .loop .out) (at .loop .end) (end .last .0) (end .result)
           (name .ensures .0) (name .ensures .1) (rw (places .ensures .0) at fields) (end .ensures .0) (end .ensures .1),

@@ -1,0 +1,83 @@
+-- What is answered to each request (docs/ASK.md): the call's name, the numbers that it tells, and a buffer that it may write, whole.
+-- Assumes nothing.
+use mathlib.Core.Bool.{cond}
+use mathlib.Core.List.{List, [], _∷_}
+use Prim.Native.Nat.{ℕ, _+_, _%_}
+use lib.Dec.{eqb}
+use Rattle.text.specs.Lines.{bufferMost, lineMost, Line}
+use Rattle.engine.specs.Calls.{netTold, stateTold, initialTold, initialLeft, eventTold, eventLeft, backTold, backLeft}
+use Rattle.engine.specs.Calls.{degreeTold, owedTold, runTold, runLeft, walkTold, walkLeft, stepTold}
+use Rattle.menu.specs.Fields.{verdictFields, degreeFields, owedFields, toldFields, stepFields}
+
+-- the parts of a line, and what the call leaves in the buffer of the state
+pub record Reply : Type 0 where
+  pub name : List ℕ
+  pub numbers : List ℕ
+  pub buffers : List (List ℕ)
+  pub left : List ℕ
+
+-- of a call that only reads the state
+abbrev pub tells : List ℕ → List ℕ → List ℕ → Reply
+tells name numbers state = record { name = name; numbers = numbers; buffers = []; left = state }
+
+-- of a call that may write it
+abbrev pub leaves : List ℕ → List ℕ → List ℕ → Reply
+leaves name numbers left = record { name = name; numbers = numbers; buffers = left ∷ []; left = left }
+
+-- THE NAMES, IN ASCII
+
+abbrev pub checkNetName : List ℕ
+checkNetName = 99 ∷ 104 ∷ 101 ∷ 99 ∷ 107 ∷ 95 ∷ 110 ∷ 101 ∷ 116 ∷ []
+
+abbrev pub initialName : List ℕ
+initialName = 105 ∷ 110 ∷ 105 ∷ 116 ∷ 105 ∷ 97 ∷ 108 ∷ []
+
+abbrev pub checkStateName : List ℕ
+checkStateName = 99 ∷ 104 ∷ 101 ∷ 99 ∷ 107 ∷ 95 ∷ 115 ∷ 116 ∷ 97 ∷ 116 ∷ 101 ∷ []
+
+abbrev pub eventName : List ℕ
+eventName = 101 ∷ 118 ∷ 101 ∷ 110 ∷ 116 ∷ []
+
+abbrev pub backName : List ℕ
+backName = 98 ∷ 97 ∷ 99 ∷ 107 ∷ []
+
+abbrev pub degreeName : List ℕ
+degreeName = 100 ∷ 101 ∷ 103 ∷ 114 ∷ 101 ∷ 101 ∷ []
+
+abbrev pub owedName : List ℕ
+owedName = 111 ∷ 119 ∷ 101 ∷ 100 ∷ []
+
+abbrev pub runName : List ℕ
+runName = 114 ∷ 117 ∷ 110 ∷ []
+
+abbrev pub walkName : List ℕ
+walkName = 119 ∷ 97 ∷ 108 ∷ 107 ∷ []
+
+abbrev pub stepName : List ℕ
+stepName = 115 ∷ 116 ∷ 101 ∷ 112 ∷ []
+
+-- THE REPLIES, by the byte that a request begins with. A request of another byte than these ten is not answered, and the two bytes of an
+-- event are bytes (`asks?` of Requests).
+
+unfoldable pub replyTo : ℕ → ℕ → ℕ → List ℕ → List ℕ → List ℕ → Reply
+replyTo kind first second net state log =
+    cond (eqb kind 1) (tells checkNetName (verdictFields (netTold net)) state)
+    (cond (eqb kind 2) (leaves initialName (verdictFields (initialTold net state)) (initialLeft net state))
+    (cond (eqb kind 3) (tells checkStateName (verdictFields (stateTold net state)) state)
+    (cond (eqb kind 4)
+    (leaves eventName (verdictFields (eventTold net state (first % 256) (second % 256))) (eventLeft net state (first % 256) (second % 256)))
+    (cond (eqb kind 5)
+    (leaves backName (verdictFields (backTold net state (first % 256) (second % 256))) (backLeft net state (first % 256) (second % 256)))
+    (cond (eqb kind 6) (tells degreeName (degreeFields (degreeTold net state first)) state)
+    (cond (eqb kind 7) (tells owedName (owedFields (owedTold net state)) state)
+    (cond (eqb kind 8) (leaves runName (toldFields (runTold net state log)) (runLeft net state log))
+    (cond (eqb kind 9) (leaves walkName (toldFields (walkTold net state log first)) (walkLeft net state log first))
+    (tells stepName (stepFields (stepTold log first)) state)))))))))
+
+-- the line of a reply stands at the buffer's front
+abbrev pub Replied : Reply → List ℕ → List ℕ → ℕ → Type 0
+Replied reply before after end = Line before 0 (reply .name) (reply .numbers) (reply .buffers) after end
+
+-- no line is longer, where the state's buffer has n bytes: the longest name is `check_state`, and the report of what is owed has nine numbers
+abbrev pub replyMost : ℕ → ℕ
+replyMost n = lineMost 11 9 + bufferMost n

@@ -1,0 +1,31 @@
+-- What a request has behind its first byte, which says the call (docs/ASK.md).
+-- Assumes nothing.
+use mathlib.Core.Bool.{Bool, _&&_, cond}
+use Prim.Native.Nat.{ℕ}
+use lib.Dec.{leb}
+use Rattle.menuask.specs.declared.request.Parts.{Parts}
+
+-- a net or a state of a request has at most so many bytes: more than any lawful one, so that longer ones can be asked about
+abbrev pub sliceMost : ℕ
+sliceMost = 16384
+
+-- the byte is one of these
+unfoldable pub within? : ℕ → ℕ → ℕ → Bool
+within? kind least most = leb least kind && leb kind most
+
+-- two numbers, the bytes of an event; or one: a transition, a number of events, or of a step
+abbrev pub numbersOf : ℕ → ℕ
+numbersOf kind = cond (within? kind 4 5) 2 (cond (within? kind 6 6) 1 (cond (within? kind 9 10) 1 0))
+
+-- its slices and numbers, in this order
+abbrev pub partsOf : ℕ → Parts
+partsOf kind = record {
+  net = within? kind 1 9;
+  state = within? kind 2 9;
+  log = within? kind 8 10;
+  numbers = numbersOf kind;
+}
+
+-- there is such a call, and the bytes of an event are bytes
+abbrev pub asks? : ℕ → ℕ → ℕ → Bool
+asks? kind first second = cond (within? kind 4 5) (leb first 255 && leb second 255) (within? kind 1 10)
