@@ -1,4 +1,5 @@
--- What a call tells, field by field, as the statements of Demands, Steps and Cases write it. The contracts do not use these.
+-- What a call tells, field by field, as the statements of Demands, Steps, Promised and Cases write it. The helpers of Answers, by which the
+-- contracts say what is computed, are not used there.
 -- Assumes nothing.
 use Prim.Native.Nat.{ℕ}
 use Rattle.owed.specs.declared.report.OwedSet.{OwedSet}

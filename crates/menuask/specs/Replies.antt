@@ -2,7 +2,7 @@
 -- Assumes nothing.
 use mathlib.Core.Bool.{cond}
 use mathlib.Core.List.{List, [], _∷_}
-use Prim.Native.Nat.{ℕ, _+_, _%_}
+use Prim.Native.Nat.{ℕ, _+_}
 use lib.Dec.{eqb}
 use Rattle.text.specs.Lines.{bufferMost, lineMost, Line}
 use Rattle.engine.specs.Calls.{netTold, stateTold, initialTold, initialLeft, eventTold, eventLeft, backTold, backLeft}
@@ -56,8 +56,7 @@ walkName = 119 ∷ 97 ∷ 108 ∷ 107 ∷ []
 abbrev pub stepName : List ℕ
 stepName = 115 ∷ 116 ∷ 101 ∷ 112 ∷ []
 
--- THE REPLIES, by the byte that a request begins with. A request of another byte than these ten is not answered, and the two bytes of an
--- event are bytes (`asks?` of Requests).
+-- THE REPLIES, by the byte that a request begins with: 1 to 10, for no other is answered (`asks?` of Requests)
 
 unfoldable pub replyTo : ℕ → ℕ → ℕ → List ℕ → List ℕ → List ℕ → Reply
 replyTo kind first second net state log =
@@ -65,9 +64,9 @@ replyTo kind first second net state log =
     (cond (eqb kind 2) (leaves initialName (verdictFields (initialTold net state)) (initialLeft net state))
     (cond (eqb kind 3) (tells checkStateName (verdictFields (stateTold net state)) state)
     (cond (eqb kind 4)
-    (leaves eventName (verdictFields (eventTold net state (first % 256) (second % 256))) (eventLeft net state (first % 256) (second % 256)))
+    (leaves eventName (verdictFields (eventTold net state first second)) (eventLeft net state first second))
     (cond (eqb kind 5)
-    (leaves backName (verdictFields (backTold net state (first % 256) (second % 256))) (backLeft net state (first % 256) (second % 256)))
+    (leaves backName (verdictFields (backTold net state first second)) (backLeft net state first second))
     (cond (eqb kind 6) (tells degreeName (degreeFields (degreeTold net state first)) state)
     (cond (eqb kind 7) (tells owedName (owedFields (owedTold net state)) state)
     (cond (eqb kind 8) (leaves runName (toldFields (runTold net state log)) (runLeft net state log))

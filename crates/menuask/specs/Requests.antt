@@ -9,6 +9,10 @@ use Rattle.menuask.specs.declared.request.Parts.{Parts}
 abbrev pub sliceMost : ℕ
 sliceMost = 16384
 
+-- and a log so many
+abbrev pub logMost : ℕ
+logMost = 65536
+
 -- the byte is one of these
 unfoldable pub within? : ℕ → ℕ → ℕ → Bool
 within? kind least most = leb least kind && leb kind most

@@ -2,6 +2,7 @@
 // of the C interface, so that the test vectors hold it too.
 use text::line;
 ghost use mathlib.Core.Path.{_≡_};
+ghost use mathlib.Core.Bool.{true};
 ghost use mathlib.Core.List.{[], _∷_};
 ghost use Prim.Native.Nat.{_≤_};
 ghost use lib.ListN.{length};
@@ -9,6 +10,7 @@ ghost use Rattle.text.specs.Lines.{Line};
 ghost use Rattle.engine.specs.Calls.{netTold, stateTold, initialTold, initialLeft, eventTold, eventLeft, backTold, backLeft};
 ghost use Rattle.engine.specs.Calls.{degreeTold, owedTold, runTold, runLeft, walkTold, walkLeft, stepTold};
 ghost use Rattle.menu.specs.Fields.{verdictFields, degreeFields, owedFields, toldFields, stepFields};
+ghost use Rattle.menuask.specs.Requests.{asks?};
 ghost use Rattle.menuask.specs.Replies.{checkNetName, initialName, checkStateName, eventName, backName, degreeName, owedName};
 ghost use Rattle.menuask.specs.Replies.{runName, walkName, stepName, replyTo, Replied, replyMost};
 
@@ -117,7 +119,7 @@ fn step(out: &mut [u8], log: &[u8], k: usize) -> usize
     line::put_line(out, 0, b"step", &told)
 }
 
-// The line of a request of a known kind, at the buffer's front.
+// The line of a request that asks for some call, at the buffer's front.
 pub fn answer(
     out: &mut [u8],
     kind: u8,
@@ -128,6 +130,7 @@ pub fn answer(
     log: &[u8],
 ) -> usize
     requires { ⌜ replyMost (length (now state)) ≤ length (now out) ⌝ }
+    requires { ⌜ asks? kind first second ≡ true ⌝ }
     ensures { λ r. ⌜ r ≤ length (now (out .exit)) ⌝ }
     ensures { λ r. ⌜ Replied (replyTo kind first second (now (net .entry)) (now (state .entry)) (now (log .entry))) (now (out .entry)) (now (out .exit)) r ⌝ }
     ensures { λ _. ⌜ now (state .exit) ≡ replyTo kind first second (now (net .entry)) (now (state .entry)) (now (log .entry)) .left ⌝ }
@@ -136,9 +139,8 @@ pub fn answer(
         1 => check_net(out, net),
         2 => initial(out, net, state),
         3 => check_state(out, net, state),
-        // a request with more than a byte here is bad, and does not come this far
-        4 => event(out, net, state, (first % 256) as u8, (second % 256) as u8),
-        5 => back(out, net, state, (first % 256) as u8, (second % 256) as u8),
+        4 => event(out, net, state, first as u8, second as u8),
+        5 => back(out, net, state, first as u8, second as u8),
         6 => degree(out, net, state, first),
         7 => owed(out, net, state),
         8 => run(out, net, state, log),

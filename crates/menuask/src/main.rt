@@ -1,13 +1,14 @@
-// Answers requests for any call of the engine, one line for each (docs/ASK.md). Which line a request gets is promised by `answer`; what
-// is read and written no contract can say, so here is only that.
+// Answers requests for any call of the engine, one line for each (docs/ASK.md). Every byte of a line is promised by `answer`; what is read
+// and written no contract can say, so here is only that.
 mod answer;
 mod request;
 
 use libc::STDIN_FILENO;
 use libc::STDOUT_FILENO;
+ghost use mathlib.Core.Path.{_≡_};
 ghost use Prim.Native.Nat.{_≤_};
 ghost use lib.ListN.{length};
-ghost use Rattle.menuask.specs.Requests.{sliceMost};
+ghost use Rattle.menuask.specs.Requests.{sliceMost, logMost};
 ghost use Rattle.menuask.specs.Replies.{replyMost};
 
 // A net or a state of a request has at most so many bytes (docs/ASK.md): more than any lawful one.
@@ -15,7 +16,8 @@ const SLICE_MOST: usize = 16384;
 
 // Answers one request, and says whether to go on: not where the input has ended, the request was bad or its line could not be written.
 fn serve(out: &mut [u8], net: &mut [u8], state: &mut [u8], log: &mut [u8]) -> bool
-    requires { ⌜ (replyMost sliceMost ≤ length (now out)) × (length (now state) ≤ sliceMost) ⌝ }
+    requires { ⌜ replyMost sliceMost ≤ length (now out) ⌝ }
+    requires { ⌜ (length (now net) ≡ sliceMost) × (length (now state) ≡ sliceMost) × (length (now log) ≡ logMost) ⌝ }
 {
     let mut kind = [0u8; 1];
     if io::read_full(STDIN_FILENO, &mut kind) == 0 {
@@ -43,7 +45,8 @@ fn serve(out: &mut [u8], net: &mut [u8], state: &mut [u8], log: &mut [u8]) -> bo
 
 // A proved loop has to end, and nothing says that the input does. So the loop counts its turns down, from a number that no run uses up.
 fn serve_all(out: &mut [u8], net: &mut [u8], state: &mut [u8], log: &mut [u8])
-    requires { ⌜ (replyMost sliceMost ≤ length (now out)) × (length (now state) ≤ sliceMost) ⌝ }
+    requires { ⌜ replyMost sliceMost ≤ length (now out) ⌝ }
+    requires { ⌜ (length (now net) ≡ sliceMost) × (length (now state) ≡ sliceMost) × (length (now log) ≡ logMost) ⌝ }
 {
     let mut goes_on = true;
     let mut turns = u64::MAX;

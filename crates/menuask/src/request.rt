@@ -2,6 +2,7 @@
 use forms::words;
 use libc::STDIN_FILENO;
 ghost use mathlib.Core.Path.{_≡_};
+ghost use mathlib.Core.Bool.{true};
 ghost use Rattle.io.specs.Counts.{Counts};
 ghost use Rattle.menuask.specs.Requests.{within?, numbersOf, partsOf, asks?};
 
@@ -97,7 +98,10 @@ fn number(fine: bool, wanted: bool) -> Part {
 fn slice(fine: bool, wanted: bool, into: &mut [u8]) -> Part
     ensures { λ r. ⌜ Counts (r .value) (now (into .exit)) ⌝ }
 {
-    let size = number(fine, wanted);
+    if !wanted {
+        return Part { fine, value: 0 };
+    }
+    let size = number(fine, true);
     let n = size.value;
     if !size.fine {
         return Part {
@@ -123,6 +127,7 @@ pub fn read(kind: u8, net: &mut [u8], state: &mut [u8], log: &mut [u8]) -> Reque
     ensures { λ r. ⌜ Counts (r .net) (now (net .exit)) ⌝ }
     ensures { λ r. ⌜ Counts (r .state) (now (state .exit)) ⌝ }
     ensures { λ r. ⌜ Counts (r .log) (now (log .exit)) ⌝ }
+    ensures { λ r. ⌜ (r .fine ≡ true → asks? kind (r .first) (r .second) ≡ true) ⌝ }
 {
     let has = parts_of(kind);
     let nets = slice(true, has.net, net);
@@ -130,8 +135,9 @@ pub fn read(kind: u8, net: &mut [u8], state: &mut [u8], log: &mut [u8]) -> Reque
     let logs = slice(states.fine, has.log, log);
     let first = number(logs.fine, 1 <= has.numbers);
     let second = number(first.fine, 2 <= has.numbers);
+    let fine = second.fine && asks(kind, first.value, second.value);
     Request {
-        fine: second.fine && asks(kind, first.value, second.value),
+        fine,
         net: nets.value,
         state: states.value,
         log: logs.value,

@@ -1,6 +1,8 @@
 -- `serve` is safe and ends: what the request says of its slices is what the answer asks.
 -- Assumes nothing.
+use mathlib.Core.Path.{refl}
 use native.Mathlib.Omega.{arith}
+use Rattle.model.proofs.Alls.{passed}
 use Rattle.io.proofs.Counting.{front}
 use borrow.Author.Needs.{needs}
 use Rattle.menuask.proofs.serve.Statement.{statement}
@@ -58,13 +60,13 @@ slice-reshare-prefix-answer-2 : tie.Need-slice-reshare-prefix-answer-2
 slice-reshare-prefix-answer-2 c = search needs
 
 slice-aggregate-answer-3 : tie.Need-slice-aggregate-answer-3
-slice-aggregate-answer-3 c = c .before .before .before .before .before .before .before .before .before .before .before .before .read .ensures .1 .1 .1
+slice-aggregate-answer-3 c = c .before .before .before .before .before .before .before .before .before .before .before .before .read .ensures .1 .1 .0 .1
 
 answer-requires : tie.Need-answer-requires
 answer-requires c κs =
     let read = c .before .before .before .before .before .before .before .before .before .before .before .before .read in
     let e = c .before .before .before .before .before .before .before .before .before .before .before .before .before .before .before .before .before .before .before .before .before .before .before .before in
-    omega (arith, read .ensures .1 .0, read .kept .1 .1 .0, e .pre)
+    (omega (arith, read .ensures .1 .0, read .kept .1 .1 .0, e .pre), read .ensures .1 .1 .1 (passed refl (c .before .before .before .before .if2 .left)))
 
 slice-reshare-prefix-write-all : tie.Need-slice-reshare-prefix-write-all
 slice-reshare-prefix-write-all c = search needs

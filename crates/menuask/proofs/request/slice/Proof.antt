@@ -15,14 +15,17 @@ use Rattle.menuask.proofs.request.slice.Tie as tie
 fronted : (bytes behind : List ℕ) (n : ℕ) → length bytes ≡ n → Counts n (bytes ++ behind)
 fronted bytes behind n e = counts n (bytes ++ behind) (simp length-append (omega arith))
 
-number-requires : tie.Need-number-requires
-number-requires c κs = search needs
-
 returns : tie.Need-returns
 returns c = search needs
 
+number-requires : tie.Need-number-requires
+number-requires c κs = search needs
+
 returns-2 : tie.Need-returns-2
 returns-2 c = search needs
+
+returns-3 : tie.Need-returns-3
+returns-3 c = search needs
 
 slice-relend-prefix-read-full : tie.Need-slice-relend-prefix-read-full
 slice-relend-prefix-read-full c = search needs
@@ -30,7 +33,7 @@ slice-relend-prefix-read-full c = search needs
 slice-aggregate-read-full : tie.Need-slice-aggregate-read-full
 slice-aggregate-read-full c =
     let e = c .before .before .before .before in
-    front (e .number .result .value) (e .before .before .args .into .now) (c .before .if2 .left)
+    front (e .number .result .value) (e .before .before .before .args .into .now) (c .before .if3 .left)
 
 read-full-requires : tie.Need-read-full-requires
 read-full-requires c κs = search needs
@@ -38,22 +41,23 @@ read-full-requires c κs = search needs
 same-length : tie.Need-same-length
 same-length c = search needs
 
-returns-3 : tie.Need-returns-3
-returns-3 c =
+returns-4 : tie.Need-returns-4
+returns-4 c =
     let read = c .before .before .read-full in
     let e = c .before .before .before .before .before .before .before in
     let n = e .number .result .value in
-    fronted (read .last .1 .0) (drop n (e .before .before .args .into .now)) n (read .kept .1 .0 ∙ sym (slice-aggregate-read-full (c .before .before .before)))
+    fronted (read .last .1 .0) (drop n (e .before .before .before .args .into .now)) n (read .kept .1 .0 ∙ sym (slice-aggregate-read-full (c .before .before .before)))
 
 pub slice-spec : {M : Type 1} → statement M
 slice-spec =
     tie.close
     (tie.spec
-    number-requires
     returns
+    number-requires
     returns-2
+    returns-3
     slice-relend-prefix-read-full
     slice-aggregate-read-full
     read-full-requires
     same-length
-    returns-3)
+    returns-4)

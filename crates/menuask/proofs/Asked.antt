@@ -1,0 +1,27 @@
+-- A request for an event that is answered has bytes for its two numbers.
+-- Assumes nothing.
+use mathlib.Core.Path.{_≡_, refl}
+use mathlib.Core.Bool.{Bool, true, false, _&&_}
+use Prim.Native.Nat.{ℕ, _≤_}
+use native.Mathlib.Omega.{arith}
+use lib.Dec.{leb}
+use borrow.Author.Tests.{leb-true}
+use Rattle.menuask.specs.Requests.{within?, asks?}
+
+both : (a b : Bool) → a && b ≡ true → (a ≡ true) × (b ≡ true)
+both true b e = (refl, e)
+both false b e = let z : _≡_ {A = ℕ} 0 1 = cc in absurd (omega arith)
+
+module _ (kind first second : ℕ) (asked : asks? kind first second ≡ true) where
+  bytes : within? kind 4 5 ≡ true → (first ≤ 255) × (second ≤ 255)
+  bytes e =
+      let (f, s) = both (leb first 255) (leb second 255) (rw e at asked) in
+      (leb-true first 255 f, leb-true second 255 s)
+
+  pub event-bytes : kind ≡ 4 → (first ≤ 255) × (second ≤ 255)
+  unfolding within?
+  event-bytes e = bytes (rw e refl)
+
+  pub back-bytes : kind ≡ 5 → (first ≤ 255) × (second ≤ 255)
+  unfolding within?
+  back-bytes e = bytes (rw e refl)
