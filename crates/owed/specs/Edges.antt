@@ -16,7 +16,7 @@ use Rattle.forms.specs.Cases.{rowNet, rowState}
 use Rattle.owed.specs.declared.report.OwedSet.{OwedSet}
 use Rattle.owed.specs.Bits.{wordOf, bitAt}
 use Rattle.owed.specs.Marks.{shortPlace}
-use Rattle.owed.specs.Reported.{setOf, reported}
+use Rattle.owed.specs.Reported.{reported}
 
 -- these bytes owe these starts and these ends, and stand so
 abbrev pub Owes : List ℕ → OwedSet → OwedSet → Standing → Type 0
@@ -26,15 +26,19 @@ Owes b starts ends how = reported childrensRow (stateOf childrensRow b) ≡ reco
 abbrev pub spent : List ℕ
 spent = set rowState 9 0
 
--- a set: its word, how many, the lowest
+-- a set: its word, how many, the lowest. The fields are written here once more, so that two of them exchanged in `setOf` and in the code
+-- are noticed
+abbrev pub setSays : ℕ → ℕ → ℕ → OwedSet
+setSays word count lowest = record { word = word; count = count; lowest = lowest }
+
 pub record OwedNumbers : Type 0 where
-  pub initial : Owes rowState (setOf 1 1 0) (setOf 0 0 64) standing.StartOwed
+  pub initial : Owes rowState (setSays 1 1 0) (setSays 0 0 64) standing.StartOwed
   -- a token in place 1 enables transition 1
-  pub second : Owes (set spent 11 1) (setOf 2 1 1) (setOf 0 0 64) standing.StartOwed
+  pub second : Owes (set spent 11 1) (setSays 2 1 1) (setSays 0 0 64) standing.StartOwed
   -- transition 0 at age 3, transition 1 at age 0, each its lfd
-  pub due : Owes (set (set spent 21 1) 23 1) (setOf 0 0 64) (setOf 3 2 0) standing.EndOwed
-  pub running : Owes (set spent 15 1) (setOf 0 0 64) (setOf 0 0 64) standing.FreeToTick
-  pub rest : Owes spent (setOf 0 0 64) (setOf 0 0 64) standing.AtRest
+  pub due : Owes (set (set spent 21 1) 23 1) (setSays 0 0 64) (setSays 3 2 0) standing.EndOwed
+  pub running : Owes (set spent 15 1) (setSays 0 0 64) (setSays 0 0 64) standing.FreeToTick
+  pub rest : Owes spent (setSays 0 0 64) (setSays 0 0 64) standing.AtRest
   pub once : degree childrensRow (stateOf childrensRow rowState) 0 ≡ 1
   pub often : degree childrensRow (stateOf childrensRow (set rowState 8 1)) 0 ≡ 257
 
