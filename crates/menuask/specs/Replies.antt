@@ -9,20 +9,19 @@ use Rattle.engine.specs.Calls.{netTold, stateTold, initialTold, initialLeft, ev
 use Rattle.engine.specs.Calls.{degreeTold, owedTold, runTold, runLeft, walkTold, walkLeft, stepTold}
 use Rattle.menu.specs.Fields.{verdictFields, degreeFields, owedFields, toldFields, stepFields}
 
--- the parts of a line, and what the call leaves in the buffer of the state
+-- the parts of a line
 pub record Reply : Type 0 where
   pub name : List ℕ
   pub numbers : List ℕ
   pub buffers : List (List ℕ)
-  pub left : List ℕ
 
--- of a call that only reads the state
-abbrev pub tells : List ℕ → List ℕ → List ℕ → Reply
-tells name numbers state = record { name = name; numbers = numbers; buffers = []; left = state }
+-- of a call that only reads
+abbrev pub tells : List ℕ → List ℕ → Reply
+tells name numbers = record { name = name; numbers = numbers; buffers = [] }
 
--- of a call that may write it
-abbrev pub leaves : List ℕ → List ℕ → List ℕ → Reply
-leaves name numbers left = record { name = name; numbers = numbers; buffers = left ∷ []; left = left }
+-- of a call that may write the state's buffer, which is shown as the call leaves it
+abbrev pub shows : List ℕ → List ℕ → List ℕ → Reply
+shows name numbers left = record { name = name; numbers = numbers; buffers = left ∷ [] }
 
 -- THE NAMES, IN ASCII
 
@@ -56,22 +55,63 @@ walkName = 119 ∷ 97 ∷ 108 ∷ 107 ∷ []
 abbrev pub stepName : List ℕ
 stepName = 115 ∷ 116 ∷ 101 ∷ 112 ∷ []
 
--- THE REPLIES, by the byte that a request begins with: 1 to 10, for no other is answered (`asks?` of Requests)
+-- THE REPLIES
 
+abbrev pub checkNetReply : List ℕ → Reply
+checkNetReply net = tells checkNetName (verdictFields (netTold net))
+
+abbrev pub initialReply : List ℕ → List ℕ → Reply
+initialReply net state = shows initialName (verdictFields (initialTold net state)) (initialLeft net state)
+
+abbrev pub checkStateReply : List ℕ → List ℕ → Reply
+checkStateReply net state = tells checkStateName (verdictFields (stateTold net state))
+
+abbrev pub eventReply : List ℕ → List ℕ → ℕ → ℕ → Reply
+eventReply net state first second =
+    shows eventName (verdictFields (eventTold net state first second)) (eventLeft net state first second)
+
+abbrev pub backReply : List ℕ → List ℕ → ℕ → ℕ → Reply
+backReply net state first second =
+    shows backName (verdictFields (backTold net state first second)) (backLeft net state first second)
+
+abbrev pub degreeReply : List ℕ → List ℕ → ℕ → Reply
+degreeReply net state t = tells degreeName (degreeFields (degreeTold net state t))
+
+abbrev pub owedReply : List ℕ → List ℕ → Reply
+owedReply net state = tells owedName (owedFields (owedTold net state))
+
+abbrev pub runReply : List ℕ → List ℕ → List ℕ → Reply
+runReply net state log = shows runName (toldFields (runTold net state log)) (runLeft net state log)
+
+abbrev pub walkReply : List ℕ → List ℕ → List ℕ → ℕ → Reply
+walkReply net state log n = shows walkName (toldFields (walkTold net state log n)) (walkLeft net state log n)
+
+abbrev pub stepReply : List ℕ → ℕ → Reply
+stepReply log k = tells stepName (stepFields (stepTold log k))
+
+-- by the byte that a request begins with: 1 to 10, for no other is answered (`asks?` of Requests)
 unfoldable pub replyTo : ℕ → ℕ → ℕ → List ℕ → List ℕ → List ℕ → Reply
 replyTo kind first second net state log =
-    cond (eqb kind 1) (tells checkNetName (verdictFields (netTold net)) state)
-    (cond (eqb kind 2) (leaves initialName (verdictFields (initialTold net state)) (initialLeft net state))
-    (cond (eqb kind 3) (tells checkStateName (verdictFields (stateTold net state)) state)
-    (cond (eqb kind 4)
-    (leaves eventName (verdictFields (eventTold net state first second)) (eventLeft net state first second))
-    (cond (eqb kind 5)
-    (leaves backName (verdictFields (backTold net state first second)) (backLeft net state first second))
-    (cond (eqb kind 6) (tells degreeName (degreeFields (degreeTold net state first)) state)
-    (cond (eqb kind 7) (tells owedName (owedFields (owedTold net state)) state)
-    (cond (eqb kind 8) (leaves runName (toldFields (runTold net state log)) (runLeft net state log))
-    (cond (eqb kind 9) (leaves walkName (toldFields (walkTold net state log first)) (walkLeft net state log first))
-    (tells stepName (stepFields (stepTold log first)) state)))))))))
+    cond (eqb kind 1) (checkNetReply net)
+    (cond (eqb kind 2) (initialReply net state)
+    (cond (eqb kind 3) (checkStateReply net state)
+    (cond (eqb kind 4) (eventReply net state first second)
+    (cond (eqb kind 5) (backReply net state first second)
+    (cond (eqb kind 6) (degreeReply net state first)
+    (cond (eqb kind 7) (owedReply net state)
+    (cond (eqb kind 8) (runReply net state log)
+    (cond (eqb kind 9) (walkReply net state log first)
+    (stepReply log first)))))))))
+
+-- what the state's buffer holds afterwards
+unfoldable pub leftBy : ℕ → ℕ → ℕ → List ℕ → List ℕ → List ℕ → List ℕ
+leftBy kind first second net state log =
+    cond (eqb kind 2) (initialLeft net state)
+    (cond (eqb kind 4) (eventLeft net state first second)
+    (cond (eqb kind 5) (backLeft net state first second)
+    (cond (eqb kind 8) (runLeft net state log)
+    (cond (eqb kind 9) (walkLeft net state log first)
+    state))))
 
 -- the line of a reply stands at the buffer's front
 abbrev pub Replied : Reply → List ℕ → List ℕ → ℕ → Type 0

@@ -3,21 +3,17 @@
 use text::line;
 ghost use mathlib.Core.Path.{_≡_};
 ghost use mathlib.Core.Bool.{true};
-ghost use mathlib.Core.List.{[], _∷_};
 ghost use Prim.Native.Nat.{_≤_};
 ghost use lib.ListN.{length};
-ghost use Rattle.text.specs.Lines.{Line};
-ghost use Rattle.engine.specs.Calls.{netTold, stateTold, initialTold, initialLeft, eventTold, eventLeft, backTold, backLeft};
-ghost use Rattle.engine.specs.Calls.{degreeTold, owedTold, runTold, runLeft, walkTold, walkLeft, stepTold};
-ghost use Rattle.menu.specs.Fields.{verdictFields, degreeFields, owedFields, toldFields, stepFields};
+ghost use Rattle.engine.specs.Calls.{initialLeft, eventLeft, backLeft, runLeft, walkLeft};
 ghost use Rattle.menuask.specs.Requests.{asks?};
-ghost use Rattle.menuask.specs.Replies.{checkNetName, initialName, checkStateName, eventName, backName, degreeName, owedName};
-ghost use Rattle.menuask.specs.Replies.{runName, walkName, stepName, replyTo, Replied, replyMost};
+ghost use Rattle.menuask.specs.Replies.{checkNetReply, initialReply, checkStateReply, eventReply, backReply, degreeReply};
+ghost use Rattle.menuask.specs.Replies.{owedReply, runReply, walkReply, stepReply, replyTo, leftBy, Replied, replyMost};
 
 fn check_net(out: &mut [u8], net: &[u8]) -> usize
     requires { ⌜ replyMost 0 ≤ length (now out) ⌝ }
     ensures { λ r. ⌜ r ≤ length (now (out .exit)) ⌝ }
-    ensures { λ r. ⌜ Line (now (out .entry)) 0 checkNetName (verdictFields (netTold (now (net .entry)))) [] (now (out .exit)) r ⌝ }
+    ensures { λ r. ⌜ Replied (checkNetReply (now (net .entry))) (now (out .entry)) (now (out .exit)) r ⌝ }
 {
     let mut told = [0u64; 2];
     menu::menu_check_net(net, &mut told);
@@ -27,7 +23,7 @@ fn check_net(out: &mut [u8], net: &[u8]) -> usize
 fn initial(out: &mut [u8], net: &[u8], state: &mut [u8]) -> usize
     requires { ⌜ replyMost (length (now state)) ≤ length (now out) ⌝ }
     ensures { λ r. ⌜ r ≤ length (now (out .exit)) ⌝ }
-    ensures { λ r. ⌜ Line (now (out .entry)) 0 initialName (verdictFields (initialTold (now (net .entry)) (now (state .entry)))) (initialLeft (now (net .entry)) (now (state .entry)) ∷ []) (now (out .exit)) r ⌝ }
+    ensures { λ r. ⌜ Replied (initialReply (now (net .entry)) (now (state .entry))) (now (out .entry)) (now (out .exit)) r ⌝ }
     ensures { λ _. ⌜ now (state .exit) ≡ initialLeft (now (net .entry)) (now (state .entry)) ⌝ }
 {
     let mut told = [0u64; 2];
@@ -38,7 +34,7 @@ fn initial(out: &mut [u8], net: &[u8], state: &mut [u8]) -> usize
 fn check_state(out: &mut [u8], net: &[u8], state: &[u8]) -> usize
     requires { ⌜ replyMost 0 ≤ length (now out) ⌝ }
     ensures { λ r. ⌜ r ≤ length (now (out .exit)) ⌝ }
-    ensures { λ r. ⌜ Line (now (out .entry)) 0 checkStateName (verdictFields (stateTold (now (net .entry)) (now (state .entry)))) [] (now (out .exit)) r ⌝ }
+    ensures { λ r. ⌜ Replied (checkStateReply (now (net .entry)) (now (state .entry))) (now (out .entry)) (now (out .exit)) r ⌝ }
 {
     let mut told = [0u64; 2];
     menu::menu_check_state(net, state, &mut told);
@@ -48,7 +44,7 @@ fn check_state(out: &mut [u8], net: &[u8], state: &[u8]) -> usize
 fn event(out: &mut [u8], net: &[u8], state: &mut [u8], first: u8, second: u8) -> usize
     requires { ⌜ replyMost (length (now state)) ≤ length (now out) ⌝ }
     ensures { λ r. ⌜ r ≤ length (now (out .exit)) ⌝ }
-    ensures { λ r. ⌜ Line (now (out .entry)) 0 eventName (verdictFields (eventTold (now (net .entry)) (now (state .entry)) first second)) (eventLeft (now (net .entry)) (now (state .entry)) first second ∷ []) (now (out .exit)) r ⌝ }
+    ensures { λ r. ⌜ Replied (eventReply (now (net .entry)) (now (state .entry)) first second) (now (out .entry)) (now (out .exit)) r ⌝ }
     ensures { λ _. ⌜ now (state .exit) ≡ eventLeft (now (net .entry)) (now (state .entry)) first second ⌝ }
 {
     let mut told = [0u64; 2];
@@ -59,7 +55,7 @@ fn event(out: &mut [u8], net: &[u8], state: &mut [u8], first: u8, second: u8) ->
 fn back(out: &mut [u8], net: &[u8], state: &mut [u8], first: u8, second: u8) -> usize
     requires { ⌜ replyMost (length (now state)) ≤ length (now out) ⌝ }
     ensures { λ r. ⌜ r ≤ length (now (out .exit)) ⌝ }
-    ensures { λ r. ⌜ Line (now (out .entry)) 0 backName (verdictFields (backTold (now (net .entry)) (now (state .entry)) first second)) (backLeft (now (net .entry)) (now (state .entry)) first second ∷ []) (now (out .exit)) r ⌝ }
+    ensures { λ r. ⌜ Replied (backReply (now (net .entry)) (now (state .entry)) first second) (now (out .entry)) (now (out .exit)) r ⌝ }
     ensures { λ _. ⌜ now (state .exit) ≡ backLeft (now (net .entry)) (now (state .entry)) first second ⌝ }
 {
     let mut told = [0u64; 2];
@@ -70,7 +66,7 @@ fn back(out: &mut [u8], net: &[u8], state: &mut [u8], first: u8, second: u8) -> 
 fn degree(out: &mut [u8], net: &[u8], state: &[u8], t: usize) -> usize
     requires { ⌜ replyMost 0 ≤ length (now out) ⌝ }
     ensures { λ r. ⌜ r ≤ length (now (out .exit)) ⌝ }
-    ensures { λ r. ⌜ Line (now (out .entry)) 0 degreeName (degreeFields (degreeTold (now (net .entry)) (now (state .entry)) t)) [] (now (out .exit)) r ⌝ }
+    ensures { λ r. ⌜ Replied (degreeReply (now (net .entry)) (now (state .entry)) t) (now (out .entry)) (now (out .exit)) r ⌝ }
 {
     let mut told = [0u64; 3];
     menu::menu_degree(net, state, t, &mut told);
@@ -80,7 +76,7 @@ fn degree(out: &mut [u8], net: &[u8], state: &[u8], t: usize) -> usize
 fn owed(out: &mut [u8], net: &[u8], state: &[u8]) -> usize
     requires { ⌜ replyMost 0 ≤ length (now out) ⌝ }
     ensures { λ r. ⌜ r ≤ length (now (out .exit)) ⌝ }
-    ensures { λ r. ⌜ Line (now (out .entry)) 0 owedName (owedFields (owedTold (now (net .entry)) (now (state .entry)))) [] (now (out .exit)) r ⌝ }
+    ensures { λ r. ⌜ Replied (owedReply (now (net .entry)) (now (state .entry))) (now (out .entry)) (now (out .exit)) r ⌝ }
 {
     let mut told = [0u64; 9];
     menu::menu_owed(net, state, &mut told);
@@ -90,7 +86,7 @@ fn owed(out: &mut [u8], net: &[u8], state: &[u8]) -> usize
 fn run(out: &mut [u8], net: &[u8], state: &mut [u8], log: &[u8]) -> usize
     requires { ⌜ replyMost (length (now state)) ≤ length (now out) ⌝ }
     ensures { λ r. ⌜ r ≤ length (now (out .exit)) ⌝ }
-    ensures { λ r. ⌜ Line (now (out .entry)) 0 runName (toldFields (runTold (now (net .entry)) (now (state .entry)) (now (log .entry)))) (runLeft (now (net .entry)) (now (state .entry)) (now (log .entry)) ∷ []) (now (out .exit)) r ⌝ }
+    ensures { λ r. ⌜ Replied (runReply (now (net .entry)) (now (state .entry)) (now (log .entry))) (now (out .entry)) (now (out .exit)) r ⌝ }
     ensures { λ _. ⌜ now (state .exit) ≡ runLeft (now (net .entry)) (now (state .entry)) (now (log .entry)) ⌝ }
 {
     let mut told = [0u64; 4];
@@ -101,7 +97,7 @@ fn run(out: &mut [u8], net: &[u8], state: &mut [u8], log: &[u8]) -> usize
 fn walk(out: &mut [u8], net: &[u8], state: &mut [u8], log: &[u8], n: usize) -> usize
     requires { ⌜ replyMost (length (now state)) ≤ length (now out) ⌝ }
     ensures { λ r. ⌜ r ≤ length (now (out .exit)) ⌝ }
-    ensures { λ r. ⌜ Line (now (out .entry)) 0 walkName (toldFields (walkTold (now (net .entry)) (now (state .entry)) (now (log .entry)) n)) (walkLeft (now (net .entry)) (now (state .entry)) (now (log .entry)) n ∷ []) (now (out .exit)) r ⌝ }
+    ensures { λ r. ⌜ Replied (walkReply (now (net .entry)) (now (state .entry)) (now (log .entry)) n) (now (out .entry)) (now (out .exit)) r ⌝ }
     ensures { λ _. ⌜ now (state .exit) ≡ walkLeft (now (net .entry)) (now (state .entry)) (now (log .entry)) n ⌝ }
 {
     let mut told = [0u64; 4];
@@ -112,7 +108,7 @@ fn walk(out: &mut [u8], net: &[u8], state: &mut [u8], log: &[u8], n: usize) -> u
 fn step(out: &mut [u8], log: &[u8], k: usize) -> usize
     requires { ⌜ replyMost 0 ≤ length (now out) ⌝ }
     ensures { λ r. ⌜ r ≤ length (now (out .exit)) ⌝ }
-    ensures { λ r. ⌜ Line (now (out .entry)) 0 stepName (stepFields (stepTold (now (log .entry)) k)) [] (now (out .exit)) r ⌝ }
+    ensures { λ r. ⌜ Replied (stepReply (now (log .entry)) k) (now (out .entry)) (now (out .exit)) r ⌝ }
 {
     let mut told = [0u64; 4];
     menu::menu_step(log, k, &mut told);
@@ -133,7 +129,7 @@ pub fn answer(
     requires { ⌜ asks? kind first second ≡ true ⌝ }
     ensures { λ r. ⌜ r ≤ length (now (out .exit)) ⌝ }
     ensures { λ r. ⌜ Replied (replyTo kind first second (now (net .entry)) (now (state .entry)) (now (log .entry))) (now (out .entry)) (now (out .exit)) r ⌝ }
-    ensures { λ _. ⌜ now (state .exit) ≡ replyTo kind first second (now (net .entry)) (now (state .entry)) (now (log .entry)) .left ⌝ }
+    ensures { λ _. ⌜ now (state .exit) ≡ leftBy kind first second (now (net .entry)) (now (state .entry)) (now (log .entry)) ⌝ }
 {
     match kind {
         1 => check_net(out, net),

@@ -4,7 +4,7 @@ use mathlib.Core.Path.{refl}
 use native.Mathlib.Omega.{arith}
 use borrow.Author.Needs.{needs}
 use borrow.Author.Tests.{ne-eqb}
-use Rattle.menuask.specs.Replies.{replyTo}
+use Rattle.menuask.specs.Replies.{replyTo, leftBy}
 use Rattle.menuask.proofs.Asked.{event-bytes, back-bytes}
 use Rattle.menuask.proofs.answer.answer.Statement.{statement}
 use Rattle.menuask.proofs.answer.answer.Tie as tie
@@ -55,7 +55,7 @@ same-length : tie.Need-same-length
 same-length c = search needs
 
 returns : tie.Need-returns
-unfolding replyTo
+unfolding replyTo leftBy
 returns c = let line = c .before .before .check-net .ensures in rw (c .before .before .before .before .match .keys1) (line .0, (line .1, refl))
 
 same-length-2 : tie.Need-same-length-2
@@ -65,7 +65,7 @@ same-length-3 : tie.Need-same-length-3
 same-length-3 c = search needs
 
 returns-2 : tie.Need-returns-2
-unfolding replyTo
+unfolding replyTo leftBy
 returns-2 c = let line = c .before .before .before .before .initial .ensures in rw (c .before .before .before .before .before .before .before .match .keys2) (line .0, (line .1 .0, line .1 .1))
 
 same-length-4 : tie.Need-same-length-4
@@ -75,7 +75,7 @@ same-length-5 : tie.Need-same-length-5
 same-length-5 c = search needs
 
 returns-3 : tie.Need-returns-3
-unfolding replyTo
+unfolding replyTo leftBy
 returns-3 c = let line = c .before .before .check-state .ensures in rw (c .before .before .before .before .before .match .keys3) (line .0, (line .1, refl))
 
 same-length-6 : tie.Need-same-length-6
@@ -85,7 +85,7 @@ same-length-7 : tie.Need-same-length-7
 same-length-7 c = search needs
 
 returns-4 : tie.Need-returns-4
-unfolding replyTo
+unfolding replyTo leftBy
 returns-4 c = let line = c .before .before .before .before .event .ensures in rw (c .before .before .before .before .before .before .before .match .keys4) (line .0, (line .1 .0, line .1 .1))
 
 same-length-8 : tie.Need-same-length-8
@@ -95,7 +95,7 @@ same-length-9 : tie.Need-same-length-9
 same-length-9 c = search needs
 
 returns-5 : tie.Need-returns-5
-unfolding replyTo
+unfolding replyTo leftBy
 returns-5 c = let line = c .before .before .before .before .back .ensures in rw (c .before .before .before .before .before .before .before .match .keys5) (line .0, (line .1 .0, line .1 .1))
 
 same-length-10 : tie.Need-same-length-10
@@ -105,7 +105,7 @@ same-length-11 : tie.Need-same-length-11
 same-length-11 c = search needs
 
 returns-6 : tie.Need-returns-6
-unfolding replyTo
+unfolding replyTo leftBy
 returns-6 c = let line = c .before .before .degree .ensures in rw (c .before .before .before .before .before .match .keys6) (line .0, (line .1, refl))
 
 same-length-12 : tie.Need-same-length-12
@@ -115,7 +115,7 @@ same-length-13 : tie.Need-same-length-13
 same-length-13 c = search needs
 
 returns-7 : tie.Need-returns-7
-unfolding replyTo
+unfolding replyTo leftBy
 returns-7 c = let line = c .before .before .owed .ensures in rw (c .before .before .before .before .before .match .keys7) (line .0, (line .1, refl))
 
 same-length-14 : tie.Need-same-length-14
@@ -125,7 +125,7 @@ same-length-15 : tie.Need-same-length-15
 same-length-15 c = search needs
 
 returns-8 : tie.Need-returns-8
-unfolding replyTo
+unfolding replyTo leftBy
 returns-8 c = let line = c .before .before .before .before .run .ensures in rw (c .before .before .before .before .before .before .before .match .keys8) (line .0, (line .1 .0, line .1 .1))
 
 same-length-16 : tie.Need-same-length-16
@@ -135,14 +135,14 @@ same-length-17 : tie.Need-same-length-17
 same-length-17 c = search needs
 
 returns-9 : tie.Need-returns-9
-unfolding replyTo
+unfolding replyTo leftBy
 returns-9 c = let line = c .before .before .before .before .walk .ensures in rw (c .before .before .before .before .before .before .before .match .keys9) (line .0, (line .1 .0, line .1 .1))
 
 same-length-18 : tie.Need-same-length-18
 same-length-18 c = search needs
 
 returns-10 : tie.Need-returns-10
-unfolding replyTo
+unfolding replyTo leftBy
 returns-10 c =
     let r = c .before .before .before .before .match .rest in
     let line = c .before .before .step .ensures in

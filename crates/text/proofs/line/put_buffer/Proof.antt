@@ -1,9 +1,7 @@
-use mathlib.Core.Path.{_≡_, ap, _∙_}
-use mathlib.Core.List.{List}
-use Prim.Native.Nat.{ℕ, _+_, _*_}
+use mathlib.Core.Path.{_≡_, _∙_}
+use Prim.Native.Nat.{_+_, _*_}
 use native.Mathlib.Omega.{arith}
-use lib.ListN.{length, set}
-use Rattle.text.specs.Lines.{space, dash, hexed, buffered, behindBuffer}
+use lib.ListN.{length}
 use Rattle.text.proofs.Puts.{no-bytes, some-bytes}
 use borrow.Author.Needs.{needs}
 use Rattle.text.proofs.line.put_buffer.Statement.{statement}
