@@ -1,5 +1,6 @@
 -- The numbers that each call tells through the C interface, in the order of document 01: those of the engine's answer, field by field.
 -- Assumes nothing.
+use mathlib.Core.Path.{_≡_}
 use mathlib.Core.List.{List, [], _∷_}
 use Prim.Native.Nat.{ℕ}
 use Rattle.runs.specs.declared.told.Told.{Told}
@@ -7,6 +8,10 @@ use Rattle.engine.specs.declared.answers.Verdict.{Verdict}
 use Rattle.engine.specs.declared.answers.DegreeTold.{DegreeTold}
 use Rattle.engine.specs.declared.answers.OwedTold.{OwedTold}
 use Rattle.engine.specs.declared.answers.StepTold.{StepTold}
+
+-- these are the numbers of an answer of which P holds
+abbrev pub Tells : {A : Type 0} → (A → List ℕ) → List ℕ → (A → Type 0) → Type 0
+Tells {A} fields answer P = (r : A) × (answer ≡ fields r) × P r
 
 abbrev pub verdictFields : Verdict → List ℕ
 verdictFields told = told .number ∷ told .index ∷ []

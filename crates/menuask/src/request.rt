@@ -94,7 +94,7 @@ fn number(fine: bool, wanted: bool) -> Part {
     }
 }
 
-// A slice, where one is asked for: its length, and as many bytes, put at the front of its buffer. One that is longer than that is bad.
+// A slice, where one is asked for: its length, and as many bytes, put at the front of its buffer. One longer than the buffer is bad.
 fn slice(fine: bool, wanted: bool, into: &mut [u8]) -> Part
     ensures { λ r. ⌜ Counts (r .value) (now (into .exit)) ⌝ }
 {

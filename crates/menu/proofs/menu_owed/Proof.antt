@@ -1,6 +1,6 @@
 -- `menu_owed` meets its contract: it tells the fields of the engine's answer.
 -- Assumes nothing.
-use mathlib.Core.Path.{ap}
+use mathlib.Core.Path.{refl, ap}
 use borrow.Author.Needs.{needs}
 use Rattle.menu.specs.Fields.{owedFields}
 use Rattle.menu.proofs.menu_owed.Statement.{statement}
@@ -28,7 +28,9 @@ cast-t13 : tie.Need-cast-t13
 cast-t13 c = search needs
 
 returns : tie.Need-returns
-returns c = ap owedFields (c .before .before .before .before .before .before .before .before .before .owed .ensures .0)
+returns c =
+    let told = c .before .before .before .before .before .before .before .before .before .owed in
+    (ap owedFields (told .ensures .0), (told .result, refl, told .ensures .1))
 
 pub menu-owed-spec : {M : Type 1} → statement M
 menu-owed-spec =
