@@ -10,8 +10,8 @@ use Rattle.engine.specs.declared.answers.OwedTold.{OwedTold}
 use Rattle.engine.specs.declared.answers.StepTold.{StepTold}
 
 -- these are the numbers of an answer of which P holds
-abbrev pub Tells : {A : Type 0} → (A → List ℕ) → List ℕ → (A → Type 0) → Type 0
-Tells {A} fields answer P = (r : A) × (answer ≡ fields r) × P r
+abbrev pub OfAnswer : {A : Type 0} → (A → List ℕ) → List ℕ → (A → Type 0) → Type 0
+OfAnswer {A} fields answer P = (r : A) × (answer ≡ fields r) × P r
 
 abbrev pub verdictFields : Verdict → List ℕ
 verdictFields told = told .number ∷ told .index ∷ []

@@ -8,13 +8,13 @@ ghost use Rattle.engine.specs.Calls.{netTold, stateTold, initialTold, initialLe
 ghost use Rattle.engine.specs.Calls.{degreeTold, owedTold, runTold, runLeft, walkTold, walkLeft, stepTold};
 ghost use Rattle.engine.specs.Promised.{CheckNetPromise, CheckStatePromise, InitialPromise, EventPromise, BackPromise};
 ghost use Rattle.engine.specs.Promised.{DegreePromise, OwedPromise, RunPromise, WalkPromise, StepPromise};
-ghost use Rattle.menu.specs.Fields.{Tells, verdictFields, degreeFields, owedFields, toldFields, stepFields};
+ghost use Rattle.menu.specs.Fields.{OfAnswer, verdictFields, degreeFields, owedFields, toldFields, stepFields};
 
 // Checks a net: 1 to 6.
 #[no_mangle]
 pub extern "C" fn menu_check_net(net: &[u8], answer: &mut [u64; 2])
     ensures { λ _. ⌜ now (answer .exit) ≡ verdictFields (netTold (now (net .entry))) ⌝ }
-    ensures { λ _. ⌜ Tells verdictFields (now (answer .exit)) (λ r. CheckNetPromise (now (net .entry)) r) ⌝ }
+    ensures { λ _. ⌜ OfAnswer verdictFields (now (answer .exit)) (λ r. CheckNetPromise (now (net .entry)) r) ⌝ }
 {
     let told = calls::check_net(net);
     *answer = [told.number as u64, told.index as u64];
@@ -25,7 +25,7 @@ pub extern "C" fn menu_check_net(net: &[u8], answer: &mut [u64; 2])
 pub extern "C" fn menu_initial(net: &[u8], state: &mut [u8], answer: &mut [u64; 2])
     ensures { λ _. ⌜ now (answer .exit) ≡ verdictFields (initialTold (now (net .entry)) (now (state .entry))) ⌝ }
     ensures { λ _. ⌜ now (state .exit) ≡ initialLeft (now (net .entry)) (now (state .entry)) ⌝ }
-    ensures { λ _. ⌜ Tells verdictFields (now (answer .exit)) (λ r. InitialPromise (now (net .entry)) (now (state .entry)) r (now (state .exit))) ⌝ }
+    ensures { λ _. ⌜ OfAnswer verdictFields (now (answer .exit)) (λ r. InitialPromise (now (net .entry)) (now (state .entry)) r (now (state .exit))) ⌝ }
 {
     let told = calls::initial(net, state);
     *answer = [told.number as u64, told.index as u64];
@@ -35,7 +35,7 @@ pub extern "C" fn menu_initial(net: &[u8], state: &mut [u8], answer: &mut [u64; 
 #[no_mangle]
 pub extern "C" fn menu_check_state(net: &[u8], state: &[u8], answer: &mut [u64; 2])
     ensures { λ _. ⌜ now (answer .exit) ≡ verdictFields (stateTold (now (net .entry)) (now (state .entry))) ⌝ }
-    ensures { λ _. ⌜ Tells verdictFields (now (answer .exit)) (λ r. CheckStatePromise (now (net .entry)) (now (state .entry)) r) ⌝ }
+    ensures { λ _. ⌜ OfAnswer verdictFields (now (answer .exit)) (λ r. CheckStatePromise (now (net .entry)) (now (state .entry)) r) ⌝ }
 {
     let told = calls::check_state(net, state);
     *answer = [told.number as u64, told.index as u64];
@@ -52,7 +52,7 @@ pub extern "C" fn menu_event(
 )
     ensures { λ _. ⌜ now (answer .exit) ≡ verdictFields (eventTold (now (net .entry)) (now (state .entry)) first second) ⌝ }
     ensures { λ _. ⌜ now (state .exit) ≡ eventLeft (now (net .entry)) (now (state .entry)) first second ⌝ }
-    ensures { λ _. ⌜ Tells verdictFields (now (answer .exit)) (λ r. EventPromise (now (net .entry)) (now (state .entry)) first second r (now (state .exit))) ⌝ }
+    ensures { λ _. ⌜ OfAnswer verdictFields (now (answer .exit)) (λ r. EventPromise (now (net .entry)) (now (state .entry)) first second r (now (state .exit))) ⌝ }
 {
     let told = calls::event(net, state, first, second);
     *answer = [told.number as u64, told.index as u64];
@@ -69,7 +69,7 @@ pub extern "C" fn menu_back(
 )
     ensures { λ _. ⌜ now (answer .exit) ≡ verdictFields (backTold (now (net .entry)) (now (state .entry)) first second) ⌝ }
     ensures { λ _. ⌜ now (state .exit) ≡ backLeft (now (net .entry)) (now (state .entry)) first second ⌝ }
-    ensures { λ _. ⌜ Tells verdictFields (now (answer .exit)) (λ r. BackPromise (now (net .entry)) (now (state .entry)) first second r (now (state .exit))) ⌝ }
+    ensures { λ _. ⌜ OfAnswer verdictFields (now (answer .exit)) (λ r. BackPromise (now (net .entry)) (now (state .entry)) first second r (now (state .exit))) ⌝ }
 {
     let told = calls::back(net, state, first, second);
     *answer = [told.number as u64, told.index as u64];
@@ -79,7 +79,7 @@ pub extern "C" fn menu_back(
 #[no_mangle]
 pub extern "C" fn menu_degree(net: &[u8], state: &[u8], t: usize, answer: &mut [u64; 3])
     ensures { λ _. ⌜ now (answer .exit) ≡ degreeFields (degreeTold (now (net .entry)) (now (state .entry)) t) ⌝ }
-    ensures { λ _. ⌜ Tells degreeFields (now (answer .exit)) (λ r. DegreePromise (now (net .entry)) (now (state .entry)) t r) ⌝ }
+    ensures { λ _. ⌜ OfAnswer degreeFields (now (answer .exit)) (λ r. DegreePromise (now (net .entry)) (now (state .entry)) t r) ⌝ }
 {
     let told = calls::degree(net, state, t);
     *answer = [told.number as u64, told.index as u64, told.degree as u64];
@@ -89,7 +89,7 @@ pub extern "C" fn menu_degree(net: &[u8], state: &[u8], t: usize, answer: &mut [
 #[no_mangle]
 pub extern "C" fn menu_owed(net: &[u8], state: &[u8], answer: &mut [u64; 9])
     ensures { λ _. ⌜ now (answer .exit) ≡ owedFields (owedTold (now (net .entry)) (now (state .entry))) ⌝ }
-    ensures { λ _. ⌜ Tells owedFields (now (answer .exit)) (λ r. OwedPromise (now (net .entry)) (now (state .entry)) r) ⌝ }
+    ensures { λ _. ⌜ OfAnswer owedFields (now (answer .exit)) (λ r. OwedPromise (now (net .entry)) (now (state .entry)) r) ⌝ }
 {
     let told = calls::owed(net, state);
     let starts = told.starts;
@@ -112,7 +112,7 @@ pub extern "C" fn menu_owed(net: &[u8], state: &[u8], answer: &mut [u64; 9])
 pub extern "C" fn menu_run(net: &[u8], state: &mut [u8], log: &[u8], answer: &mut [u64; 4])
     ensures { λ _. ⌜ now (answer .exit) ≡ toldFields (runTold (now (net .entry)) (now (state .entry)) (now (log .entry))) ⌝ }
     ensures { λ _. ⌜ now (state .exit) ≡ runLeft (now (net .entry)) (now (state .entry)) (now (log .entry)) ⌝ }
-    ensures { λ _. ⌜ Tells toldFields (now (answer .exit)) (λ r. RunPromise (now (net .entry)) (now (state .entry)) (now (log .entry)) r (now (state .exit))) ⌝ }
+    ensures { λ _. ⌜ OfAnswer toldFields (now (answer .exit)) (λ r. RunPromise (now (net .entry)) (now (state .entry)) (now (log .entry)) r (now (state .exit))) ⌝ }
 {
     let told = calls::run(net, state, log);
     *answer = [
@@ -134,7 +134,7 @@ pub extern "C" fn menu_walk(
 )
     ensures { λ _. ⌜ now (answer .exit) ≡ toldFields (walkTold (now (net .entry)) (now (state .entry)) (now (log .entry)) n) ⌝ }
     ensures { λ _. ⌜ now (state .exit) ≡ walkLeft (now (net .entry)) (now (state .entry)) (now (log .entry)) n ⌝ }
-    ensures { λ _. ⌜ Tells toldFields (now (answer .exit)) (λ r. WalkPromise (now (net .entry)) (now (state .entry)) (now (log .entry)) n r (now (state .exit))) ⌝ }
+    ensures { λ _. ⌜ OfAnswer toldFields (now (answer .exit)) (λ r. WalkPromise (now (net .entry)) (now (state .entry)) (now (log .entry)) n r (now (state .exit))) ⌝ }
 {
     let told = calls::walk(net, state, log, n);
     *answer = [
@@ -149,7 +149,7 @@ pub extern "C" fn menu_walk(
 #[no_mangle]
 pub extern "C" fn menu_step(log: &[u8], k: usize, answer: &mut [u64; 4])
     ensures { λ _. ⌜ now (answer .exit) ≡ stepFields (stepTold (now (log .entry)) k) ⌝ }
-    ensures { λ _. ⌜ Tells stepFields (now (answer .exit)) (λ r. StepPromise (now (log .entry)) k r) ⌝ }
+    ensures { λ _. ⌜ OfAnswer stepFields (now (answer .exit)) (λ r. StepPromise (now (log .entry)) k r) ⌝ }
 {
     let told = calls::step_told(log, k);
     *answer = [
