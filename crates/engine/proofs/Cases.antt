@@ -3,7 +3,7 @@
 use mathlib.Core.Path.{refl}
 use Rattle.model.specs.Tab.{tab, all, largest, least, howMany, lowest, one}
 use Rattle.model.specs.Net.{width, tokens, count, build, initialState}
-use Rattle.model.specs.Rules.{enabled?, no-start-owed?, no-end-owed?, nothing-running?, timely?, has-room?, covers?, none-fresh?}
+use Rattle.model.specs.Rules.{lackingPlace, enabled?, short, no-start-owed?, no-end-owed?, nothing-running?, timely?, has-room?, covers?, none-fresh?}
 use Rattle.model.specs.Rules.{older, started, ended, ticked, unstarted, unended, unticked, apply, back, times, degree}
 use Rattle.model.specs.Run.{inTurn, run, walkBack, walk}
 use Rattle.model.specs.Owed.{owes-start?, owes-end?, standingOf, owed}
@@ -29,7 +29,7 @@ unfolding cases AllHold
     checkNet net-head? checkRow some-weight? checkState has-head? none-past? checkLog is-log? begins? checksInTurn
     netOf stateOf eventsIn word word32 blank? setWord putWords putRows rowAt countAt stateLength written
     run inTurn owed owes-start? owes-end? standingOf apply back started ended ticked unstarted unended unticked older
-    enabled? no-start-owed? no-end-owed? nothing-running? timely? has-room? covers? none-fresh?
+    lackingPlace enabled? short no-start-owed? no-end-owed? nothing-running? timely? has-room? covers? none-fresh?
     width tokens count build tab all largest howMany lowest one
 cases-hold = (
   refl,
@@ -67,7 +67,7 @@ unfolding netTold stateTold initialTold initialLeft eventTold eventLeft backTold
     netOf stateOf eventsIn word word32 blank? setWord setWord32 putWords putRows rowAt countAt stateLength
     written headed image afterInitial initialState startFrom endFrom wordOf
     run walk walkBack inTurn owed owes-start? owes-end? standingOf degree times apply back started ended ticked unstarted unended unticked older
-    enabled? no-start-owed? no-end-owed? nothing-running? timely? has-room? covers? none-fresh?
+    lackingPlace enabled? short no-start-owed? no-end-owed? nothing-running? timely? has-room? covers? none-fresh?
     width tokens count build tab all largest least howMany lowest one
 further = record {
   good-net = refl;
@@ -95,6 +95,10 @@ further = record {
   none-back = (refl, refl);
   overdue-state = refl;
   overdue-event = (refl, refl);
+  short-event = (refl, refl);
+  short-run = (refl, refl);
+  short-lowest = refl;
+  short-last = refl;
   degree-0 = refl;
   degree-1 = refl;
   degree-2 = refl;

@@ -18,15 +18,17 @@ use Rattle.forms.specs.Stored.{netOf}
 use Rattle.forms.specs.Written.{checkRoom, afterInitial}
 use Rattle.forms.specs.Nets.{checkNet}
 use Rattle.forms.proofs.Frames.{frame, initial-began}
-use Rattle.runs.specs.declared.told.Told.{Told}
-use Rattle.runs.specs.Runs.{toldFault}
+use Rattle.runs.specs.declared.told.RunTold.{RunTold}
+use Rattle.runs.specs.declared.told.WalkTold.{WalkTold}
+use Rattle.runs.specs.Runs.{runFault, walkFault}
 use Rattle.engine.specs.declared.answers.Verdict.{Verdict}
+use Rattle.engine.specs.declared.answers.EventTold.{EventTold}
 use Rattle.engine.specs.declared.answers.DegreeTold.{DegreeTold}
 use Rattle.engine.specs.declared.answers.OwedTold.{OwedTold}
 use Rattle.engine.specs.declared.examine.Examined.{Examined}
 use Rattle.engine.specs.declared.examine.Examined.the-variants as examined
 use Rattle.engine.specs.Examined.{ifGood, examineNet, examineState, examineLog, ifFit}
-use Rattle.engine.specs.Answers.{verdict, accepted, verdictOf, unfit, noDegree, noReport}
+use Rattle.engine.specs.Answers.{verdict, accepted, verdictOf, unfit, eventUnfit, noDegree, noReport}
 use Rattle.engine.specs.Calls.{netTold, stateTold, initialTold, initialLeft, eventTold, eventLeft, backTold, backLeft}
 use Rattle.engine.specs.Calls.{degreeTold, owedTold, runTold, runLeft, walkTold, walkLeft, stepTold}
 use Rattle.engine.specs.Demands.{Passes, InitialGiven, ToldPasses, ToldFault}
@@ -98,7 +100,9 @@ pub told-passes : (net b : List ℕ) → ToldPasses net b
 unfolding netTold stateTold initialTold eventTold backTold degreeTold owedTold runTold walkTold examineNet
 told-passes net b =
     let verdict : Verdict → ℕ = λ x. x .number in
-    let told : Told → ℕ = λ x. x .number in
+    let event : EventTold → ℕ = λ x. x .number in
+    let ran : RunTold → ℕ = λ x. x .number in
+    let told : WalkTold → ℕ = λ x. x .number in
     record {
       check-net = (net-zero (checkNet net) _, λ (s, e). ap numberOf (good-then (checkNet net) _ e .0));
       check-state = (
@@ -106,12 +110,12 @@ told-passes net b =
         λ p. rw (p .1),
       );
       initial = zero-passes (examineNet net) _ unfit verdict (λ why. refl);
-      event = λ first second. zero-passes (examineState net b) _ unfit verdict (λ why. refl);
+      event = λ first second. zero-passes (examineState net b) _ eventUnfit event (λ why. refl);
       back = λ first second. zero-passes (examineState net b) _ unfit verdict (λ why. refl);
       degree = λ t. zero-passes (examineState net b) _ noDegree (λ (x : DegreeTold). x .number) (λ why. refl);
       owed = zero-passes (examineState net b) _ noReport (λ (x : OwedTold). x .number) (λ why. refl);
-      run = λ log. zero-passes (examineLog net b log) _ toldFault told (λ why. refl);
-      walk = λ log n. zero-passes (examineLog net b log) _ toldFault told (λ why. refl);
+      run = λ log. zero-passes (examineLog net b log) _ runFault ran (λ why. refl);
+      walk = λ log n. zero-passes (examineLog net b log) _ walkFault told (λ why. refl);
     }
 
 pub told-fault : (net b : List ℕ) → ToldFault net b

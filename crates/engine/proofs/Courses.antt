@@ -1,93 +1,94 @@
 -- Outcomes by the numbers that are told of them; and runs and walks of the model, as the demands on bytes use them.
 -- Assumes nothing.
 use mathlib.Core.Path.{_≡_, refl, sym, ap, subst, _∙_}
-use mathlib.Core.Bool.{cond}
 use mathlib.Core.List.{List, [], _∷_, _++_}
 use Prim.Native.Nat.{ℕ, _+_, _<_, _≤_}
 use native.Mathlib.Omega.{arith}
-use lib.Dec.{eqb}
 use lib.ListN.{length, take, length-append}
 use lib.Seq.{take-append-add, getD-append-add}
 use borrow.Author.Tests.{lt-ltb}
 use Rattle.model.specs.declared.event.Event.{Event}
 use Rattle.model.specs.declared.event.Event.the-variants as event
 use Rattle.model.specs.declared.answer.Refusal.{Refusal}
-use Rattle.model.specs.declared.answer.Refusal.the-variants as refusal
-use Rattle.model.specs.Answer.{numberOf as numberOfAnswer, numberOfRefusal}
+use Rattle.model.specs.declared.answer.Answer.{Answer}
+use Rattle.model.specs.declared.answer.Answer.the-variants as answer
+use Rattle.model.specs.Answer.{Telling, tellingOfRefusal, tellingOf, numberOf as numberOfAnswer, numberOfRefusal}
 use Rattle.model.specs.Net.{Net, State, Lawful}
+use Rattle.model.specs.Refusals.{Unfit, Barred}
 use Rattle.model.specs.Rules.{Outcome, done, refused, answerOf}
-use Rattle.model.specs.Run.{Told as Account, Leads, stay, RunCloses, WalkCloses, Walked, lastOf, ticksIn}
+use Rattle.model.specs.Run.{RunTold as RunAccount, WalkTold as WalkAccount, Leads, stay, RunCloses, WalkCloses, Walked, lastOf, ticksIn}
 use Rattle.model.specs.Run.{tooMany, run, walk}
-use Rattle.model.proofs.Run.{leads-append, refusal-number, run-ran, ran-only}
+use Rattle.model.proofs.Run.{leads-append, run-ran, ran-only}
+use Rattle.model.proofs.Tellings.{refusal-number, one-telling, one-number}
 use Rattle.forms.specs.Written.{written}
 use Rattle.moves.specs.After.{after}
 use Rattle.engine.specs.declared.answers.Verdict.{Verdict}
-use Rattle.engine.specs.Answers.{verdict, accepted, answered}
+use Rattle.engine.specs.declared.answers.EventTold.{EventTold}
+use Rattle.engine.specs.Answers.{answered, eventAnswered}
 
 -- NUMBERS AND OUTCOMES
-
--- the refusal by its number
-named : ℕ → Refusal
-named n =
-    cond (eqb n 11) refusal.Malformed (cond (eqb n 12) refusal.NoSuchTransition
-    (cond (eqb n 13) refusal.NotEnabled (cond (eqb n 14) refusal.CountFull
-    (cond (eqb n 15) refusal.OutsideInterval (cond (eqb n 16) refusal.NoneOfThatAge
-    (cond (eqb n 17) refusal.PlaceFull (cond (eqb n 18) refusal.StartOwed
-    (cond (eqb n 19) refusal.EndOwed (cond (eqb n 20) refusal.NothingRunning refusal.NoStateBefore)))))))))
-
-named-number : (why : Refusal) → named (numberOfRefusal why) ≡ why
-unfolding named
-named-number refusal.Malformed = refl
-named-number refusal.NoSuchTransition = refl
-named-number refusal.NotEnabled = refl
-named-number refusal.CountFull = refl
-named-number refusal.OutsideInterval = refl
-named-number refusal.NoneOfThatAge = refl
-named-number refusal.PlaceFull = refl
-named-number refusal.StartOwed = refl
-named-number refusal.EndOwed = refl
-named-number refusal.NothingRunning = refl
-named-number refusal.NoStateBefore = refl
-
--- two refusals with one number are one
-one-number : (why other : Refusal) → numberOfRefusal why ≡ numberOfRefusal other → why ≡ other
-one-number why other e = sym (named-number why) ∙ ap named e ∙ named-number other
 
 number-done : (o : Outcome) → numberOfAnswer (answerOf o) ≡ 0 → (S′ : State) × (o ≡ done S′)
 number-done (done S′) e = (S′, refl)
 number-done (refused why) e = refusal-number why e
 
-number-refused : (o : Outcome) (why : Refusal) → numberOfAnswer (answerOf o) ≡ numberOfRefusal why → o ≡ refused why
-number-refused (done S′) why e = refusal-number why (sym e)
-number-refused (refused other) why e = ap refused (one-number other why e)
+-- of a refused event as much is told as makes it out; of one taken back the number does, for it is not 13
+told-refused : (o : Outcome) (why : Refusal) → tellingOf (answerOf o) ≡ tellingOfRefusal why → o ≡ refused why
+told-refused (done S′) why e = refusal-number why (ap (λ (x : Telling). x .number) (sym e))
+told-refused (refused other) why e = ap refused (one-telling other why e)
+
+number-refused : (o : Outcome) (why : Refusal) → ((w : Refusal) → o ≡ refused w → ¬ (numberOfRefusal w ≡ 13))
+    → numberOfAnswer (answerOf o) ≡ numberOfRefusal why → o ≡ refused why
+number-refused (done S′) why other e = refusal-number why (sym e)
+number-refused (refused w) why other e = ap refused (one-number w why (other w refl) e)
 
 unchanged : (N : Net) (o : Outcome) (b : List ℕ) → ¬ (numberOfAnswer (answerOf o) ≡ 0) → after N o b ≡ b
 unchanged N (done S′) b h = absurd (h refl)
 unchanged N (refused why) b h = refl
 
--- by an outcome r is told, and of the buffer b the buffer b′ is left
-pub record ComesTo (N : Net) (b : List ℕ) (o : Outcome) (r : Verdict) (b′ : List ℕ) : Type 0 where
-  pub said : r ≡ answered (answerOf o)
+-- by an outcome r is told, in the way `tell`, and of the buffer b the buffer b′ is left
+pub record ComesTo {A : Type 0} (tell : Answer → A) (N : Net) (b : List ℕ) (o : Outcome) (r : A) (b′ : List ℕ) : Type 0 where
+  pub said : r ≡ tell (answerOf o)
   pub wrote : b′ ≡ after N o b
 
-module _ {N : Net} {b : List ℕ} {o : Outcome} {r : Verdict} {b′ : List ℕ} (c : ComesTo N b o r b′) where
-  number-is : r .number ≡ numberOfAnswer (answerOf o)
-  number-is = ap (λ (x : Verdict). x .number) (c .said)
+module _ {A : Type 0} {tell : Answer → A} {N : Net} {b : List ℕ} {o : Outcome} {r : A} {b′ : List ℕ} (c : ComesTo tell N b o r b′) where
+  pub on-done : (S′ : State) → o ≡ done S′ → (r ≡ tell answer.Done) × (b′ ≡ written N S′ b)
+  on-done S′ d = (c .said ∙ ap (λ (x : Outcome). tell (answerOf x)) d, c .wrote ∙ ap (λ (x : Outcome). after N x b) d)
 
-  pub is-done : r .number ≡ 0 → (S′ : State) × (o ≡ done S′)
-  is-done e = number-done o (sym number-is ∙ e)
+  pub on-refused : (why : Refusal) → o ≡ refused why → r ≡ tell (answer.Refused why)
+  on-refused why d = c .said ∙ ap (λ (x : Outcome). tell (answerOf x)) d
 
-  pub on-done : (S′ : State) → o ≡ done S′ → (r ≡ accepted) × (b′ ≡ written N S′ b)
-  on-done S′ d = (c .said ∙ ap (λ (x : Outcome). answered (answerOf x)) d, c .wrote ∙ ap (λ (x : Outcome). after N x b) d)
+  -- where the number that is told is the answer's
+  module _ (number : A → ℕ) (is : (a : Answer) → number (tell a) ≡ numberOfAnswer a) where
+    number-is : number r ≡ numberOfAnswer (answerOf o)
+    number-is = ap number (c .said) ∙ is (answerOf o)
 
-  pub is-refused : (why : Refusal) → r ≡ verdict (numberOfRefusal why) 0 → o ≡ refused why
-  is-refused why e = number-refused o why (sym number-is ∙ ap (λ (x : Verdict). x .number) e)
+    pub is-done : number r ≡ 0 → (S′ : State) × (o ≡ done S′)
+    is-done e = number-done o (sym number-is ∙ e)
 
-  pub on-refused : (why : Refusal) → o ≡ refused why → r ≡ verdict (numberOfRefusal why) 0
-  on-refused why d = c .said ∙ ap (λ (x : Outcome). answered (answerOf x)) d
+    pub on-none : ¬ (number r ≡ 0) → b′ ≡ b
+    on-none h = c .wrote ∙ unchanged N o b (λ e. h (number-is ∙ e))
 
-  pub on-none : ¬ (r .number ≡ 0) → b′ ≡ b
-  on-none h = c .wrote ∙ unchanged N o b (λ e. h (number-is ∙ e))
+-- an event done tells all that makes its refusal out
+pub is-refused : {N : Net} {b : List ℕ} {o : Outcome} {r : EventTold} {b′ : List ℕ} → ComesTo eventAnswered N b o r b′
+    → (why : Refusal) → r ≡ eventAnswered (answer.Refused why) → o ≡ refused why
+is-refused {o = o} c why e = told-refused o why (ap telling (sym (c .said) ∙ e))
+  where
+    telling : EventTold → Telling
+    telling x = record { number = x .number; short = x .short }
+
+-- and one taken back tells its number, which is never 13
+pub is-barred : {N : Net} {b : List ℕ} {o : Outcome} {r : Verdict} {b′ : List ℕ} → ComesTo answered N b o r b′
+    → ((w : Refusal) → o ≡ refused w → ¬ (numberOfRefusal w ≡ 13))
+    → (why : Refusal) → r ≡ answered (answer.Refused why) → o ≡ refused why
+is-barred {o = o} c other why e = number-refused o why other (ap (λ (x : Verdict). x .number) (sym (c .said) ∙ e))
+
+-- 11, 12 and 21 are not 13
+pub barred-other : {N : Net} {S : State} {e : Event} {why : Refusal} → Barred N S e why → ¬ (numberOfRefusal why ≡ 13)
+barred-other (Barred.unfit Unfit.malformed) z = omega arith
+barred-other (Barred.unfit (Unfit.no-such-start a)) z = omega arith
+barred-other (Barred.unfit (Unfit.no-such-end a)) z = omega arith
+barred-other (Barred.no-state-before f none) z = omega arith
 
 -- RUNS AND WALKS OF THE MODEL
 
@@ -97,16 +98,17 @@ ticks-append [] fs = omega arith
 ticks-append (e ∷ es) fs = omega (arith, ticks-append es fs)
 
 -- what is told of events behind others that were done
-abbrev pub toldBehind : List Event → Account → Account
+abbrev pub toldBehind : List Event → RunAccount → RunAccount
 toldBehind es r = record {
   number = r .number;
   index = length es + r .index;
   done = length es + r .done;
   ticks = ticksIn es + r .ticks;
+  short = r .short;
   state = r .state;
 }
 
-behind-closes : (N : Net) (es fs : List Event) (r : Account) → RunCloses N fs r → RunCloses N (es ++ fs) (toldBehind es r)
+behind-closes : (N : Net) (es fs : List Event) (r : RunAccount) → RunCloses N fs r → RunCloses N (es ++ fs) (toldBehind es r)
 behind-closes N es fs r (RunCloses.accepted n d) = RunCloses.accepted n (omega (arith, length-append es fs))
 behind-closes N es fs r (RunCloses.stopped why n l f) =
     RunCloses.stopped why n (omega (arith, length-append es fs)) (rw (getD-append-add es fs (r .done) event.Malformed) f)
@@ -124,13 +126,13 @@ run-append N S S₁ es fs m =
     }))
 
 -- a walk leaves a lawful state
-pub walked-lawful : (N : Net) (S′ : State) (es : List Event) (n : ℕ) (r : Account)
+pub walked-lawful : (N : Net) (S′ : State) (es : List Event) (n : ℕ) (r : WalkAccount)
     → Lawful N S′ → Walked N S′ es n r → Lawful N (r .state)
 walked-lawful N S′ es n r s′ (Walked.too-many h a b c d e) = subst (Lawful N) (sym e) s′
 walked-lawful N S′ es n r s′ (Walked.within h w) = w .lawful
 
 -- and one that is accepted leaves a state from which the last n events lead here
-pub walked-from : (N : Net) (S′ : State) (es : List Event) (n : ℕ) (r : Account) → Walked N S′ es n r → r .number ≡ 0
+pub walked-from : (N : Net) (S′ : State) (es : List Event) (n : ℕ) (r : WalkAccount) → Walked N S′ es n r → r .number ≡ 0
     → (n ≤ length es) × ((S : State) × Lawful N S × Leads N S (lastOf n es) S′)
 walked-from N S′ es n r (Walked.too-many h a b c d e) z = absurd (omega arith)
 walked-from N S′ es n r (Walked.within h w) z = (h, closed (w .closes))

@@ -14,6 +14,10 @@ use Rattle.engine.proofs.answers.Verdict.unfit.Reads as verdict-unfit
 use Rattle.engine.proofs.answers.Verdict.unfit.Kinds as verdict-unfit-kinds
 use Rattle.engine.proofs.answers.Verdict.answered.Reads as verdict-answered
 use Rattle.engine.proofs.answers.Verdict.answered.Kinds as verdict-answered-kinds
+use Rattle.engine.proofs.answers.EventTold.unfit.Reads as eventtold-unfit
+use Rattle.engine.proofs.answers.EventTold.unfit.Kinds as eventtold-unfit-kinds
+use Rattle.engine.proofs.answers.EventTold.answered.Reads as eventtold-answered
+use Rattle.engine.proofs.answers.EventTold.answered.Kinds as eventtold-answered-kinds
 use Rattle.engine.proofs.answers.DegreeTold.unfit.Reads as degreetold-unfit
 use Rattle.engine.proofs.answers.DegreeTold.unfit.Kinds as degreetold-unfit-kinds
 use Rattle.engine.proofs.answers.OwedTold.of.Reads as owedtold-of
@@ -59,6 +63,12 @@ verdict-unfit-determined κs args x y s s′ p q = p ∙ sym q
 
 pub verdict-answered-determined : Determined 0 verdict-answered-kinds.ps verdict-answered-kinds.r verdict-answered.Learnt
 verdict-answered-determined κs args x y s s′ p q = p ∙ sym q
+
+pub eventtold-unfit-determined : Determined 0 eventtold-unfit-kinds.ps eventtold-unfit-kinds.r eventtold-unfit.Learnt
+eventtold-unfit-determined κs args x y s s′ p q = p ∙ sym q
+
+pub eventtold-answered-determined : Determined 0 eventtold-answered-kinds.ps eventtold-answered-kinds.r eventtold-answered.Learnt
+eventtold-answered-determined κs args x y s s′ p q = p ∙ sym q
 
 pub degreetold-unfit-determined : Determined 0 degreetold-unfit-kinds.ps degreetold-unfit-kinds.r degreetold-unfit.Learnt
 degreetold-unfit-determined κs args x y s s′ p q = p ∙ sym q

@@ -1,15 +1,25 @@
 -- Demands 2 and 3 on bytes, for one event done and taken back.
 -- Assumes nothing.
 use mathlib.Core.Path.{_≡_, refl, sym, ap, subst, _∙_}
+use mathlib.Core.Logic.{_↔_}
 use mathlib.Core.List.{List}
 use Prim.Native.Nat.{ℕ}
 use Rattle.model.specs.declared.net.Net.{Net as Shape}
 use Rattle.model.specs.declared.event.Event.{Event}
+use Rattle.model.specs.declared.answer.Short.{Short}
+use Rattle.model.specs.declared.answer.Refusal.{Refusal}
+use Rattle.model.specs.declared.answer.Refusal.the-variants as refusal
+use Rattle.model.specs.declared.answer.Answer.{Answer}
+use Rattle.model.specs.declared.answer.Answer.the-variants as answer
 use Rattle.model.specs.Event.{eventOf}
+use Rattle.model.specs.Refusals.{Refuses, FallsShort}
 use Rattle.model.specs.Net.{Net, State, Lawful}
 use Rattle.model.proofs.Forward.{apply-exact}
 use Rattle.model.proofs.Back.{back-exact}
-use Rattle.model.proofs.Refusals.{apply-refuses, back-refuses}
+use Rattle.model.proofs.Refusals.{apply-refuses, falls-short, short-told, back-refuses}
+use Rattle.model.specs.Rules.{answerOf, apply}
+use Rattle.model.proofs.Lacking.{just-short}
+use Rattle.model.proofs.Tellings.{no-place}
 use Rattle.model.proofs.Lawful.{moves-lawful}
 use Rattle.forms.specs.Word.{Bytes}
 use Rattle.forms.specs.Stored.{netOf, stored}
@@ -20,9 +30,12 @@ use Rattle.forms.proofs.Written.{length-written, written-head, written-behind, 
 use Rattle.forms.proofs.Frames.{written-framed}
 use Rattle.moves.proofs.Undone.{apply-framed, back-framed, undone, redone}
 use Rattle.engine.specs.declared.answers.Verdict.{Verdict}
+use Rattle.engine.specs.declared.answers.EventTold.{EventTold}
+use Rattle.engine.specs.Answers.{eventAnswered}
+use Rattle.engine.specs.Said.{saysEvent}
 use Rattle.engine.specs.Calls.{eventTold, eventLeft, backTold, backLeft}
 use Rattle.engine.specs.Demands.{LeavesState, EventDone, EventBack}
-use Rattle.engine.proofs.Courses.{is-done, on-done, is-refused, on-refused, on-none}
+use Rattle.engine.proofs.Courses.{is-done, on-done, is-refused, is-barred, barred-other, on-refused, on-none}
 use Rattle.engine.proofs.PastChecks.{fits-state, event-comes, back-comes}
 
 module _ (net : List ℕ) (shape : Shape) (b : List ℕ) (f : Framed net shape b) (small : Bytes b) where
@@ -50,26 +63,47 @@ module _ (net : List ℕ) (shape : Shape) (b : List ℕ) (f : Framed net shape b
 
   -- ONE EVENT
 
+  abbrev eventNumber : EventTold → ℕ
+  eventNumber x = x .number
+
+  abbrev backNumber : Verdict → ℕ
+  backNumber x = x .number
+
   module _ (first second : ℕ) where
     abbrev e : Event
     e = eventOf first second
 
+    -- what is told of an event has 0 as its index
+    with-number : (r : EventTold) (a : Answer) → r .number ≡ 13 → r ≡ eventAnswered a → r ≡ saysEvent 13 0 (r .short)
+    with-number r a z said = λ i. record { number = z i; index = said i .index; short = r .short }
+
     pub event-done : EventDone net b first second (eventTold net b first second) (eventLeft net b first second)
     event-done =
         let c = event-comes net shape b f first second in
+        let told : (why : Refusal) → (eventTold net b first second ≡ eventAnswered (answer.Refused why)) ↔ Refuses N S e why =
+        λ why. (
+          (λ z. apply-refuses N S e why .0 (is-refused c why z)),
+          λ h. on-refused c why (apply-refuses N S e why .1 h),
+        ) in
+        let short : (s : Short) → (eventTold net b first second ≡ eventAnswered (answer.Refused (refusal.NotEnabled s))) ↔ FallsShort N S e s =
+        λ s.
+        let why = refusal.NotEnabled s in
+        ((λ z. falls-short (told why .0 z)), λ h. on-refused c why (short-told N S e s .1 h)) in
         record {
           permitted = (
-            (λ z. let (S′, d) = is-done c z in (S′, apply-exact N S e S′ .0 d)),
-            λ (S′, m). ap (λ (x : Verdict). x .number) (on-done c S′ (apply-exact N S e S′ .1 m) .0),
+            (λ z. let (S′, d) = is-done c eventNumber (λ a. refl) z in (S′, apply-exact N S e S′ .0 d)),
+            λ (S′, m). ap eventNumber (on-done c S′ (apply-exact N S e S′ .1 m) .0),
           );
           done = λ S′ m.
               let (a, w) = on-done c S′ (apply-exact N S e S′ .1 m) in
               (a, leaves (eventLeft net b first second) S′ (moves-lawful e lawful m) w);
-          refused = λ why. (
-            (λ z. apply-refuses N S e why .0 (is-refused c why z)),
-            λ h. on-refused c why (apply-refuses N S e why .1 h),
-          );
-          kept = on-none c;
+          refused = told;
+          short = short;
+          just = λ z.
+              let s = eventTold net b first second .short in
+              just-short N S e s (short s .0 (with-number (eventTold net b first second) (answerOf (apply N S e)) z (c .said)));
+          plain = λ h. ap (λ (x : EventTold). x .short) (c .said) ∙ no-place (answerOf (apply N S e)) (λ z. h (ap eventNumber (c .said) ∙ z));
+          kept = on-none c eventNumber (λ a. refl);
         }
 
     event-undone : eventTold net b first second .number ≡ 0
@@ -77,20 +111,20 @@ module _ (net : List ℕ) (shape : Shape) (b : List ℕ) (f : Framed net shape b
         × (backLeft net (eventLeft net b first second) first second ≡ b)
     event-undone z =
         let c = event-comes net shape b f first second in
-        let (S′, d) = is-done c z in
+        let (S′, d) = is-done c eventNumber (λ a. refl) z in
         let (t, same) = undone net shape b f small e S′ d in
         let back = back-comes net shape (written N S′ b) (apply-framed net shape b f small e S′ d) first second in
-        rw (on-done c S′ d .1) (ap (λ (x : Verdict). x .number) (on-done back S t .0), back .wrote ∙ same)
+        rw (on-done c S′ d .1) (ap backNumber (on-done back S t .0), back .wrote ∙ same)
 
     back-redone : backTold net b first second .number ≡ 0
         → (eventTold net (backLeft net b first second) first second .number ≡ 0)
         × (eventLeft net (backLeft net b first second) first second ≡ b)
     back-redone z =
         let c = back-comes net shape b f first second in
-        let (S₀, d) = is-done c z in
+        let (S₀, d) = is-done c backNumber (λ a. refl) z in
         let (t, same) = redone net shape b f small e S₀ d in
         let forth = event-comes net shape (written N S₀ b) (back-framed net shape b f small e S₀ d) first second in
-        rw (on-done c S₀ d .1) (ap (λ (x : Verdict). x .number) (on-done forth S t .0), forth .wrote ∙ same)
+        rw (on-done c S₀ d .1) (ap eventNumber (on-done forth S t .0), forth .wrote ∙ same)
 
     pub event-back : EventBack net b first second (backTold net b first second) (backLeft net b first second)
     event-back =
@@ -98,19 +132,19 @@ module _ (net : List ℕ) (shape : Shape) (b : List ℕ) (f : Framed net shape b
         record {
           permitted = (
             (λ z.
-                let (S₀, d) = is-done c z in
+                let (S₀, d) = is-done c backNumber (λ a. refl) z in
                 let (s₀, m) = back-exact N S lawful e S₀ .0 d in
                 (S₀, s₀, m)),
-            λ (S₀, s₀, m). ap (λ (x : Verdict). x .number) (on-done c S₀ (back-exact N S lawful e S₀ .1 (s₀, m)) .0),
+            λ (S₀, s₀, m). ap backNumber (on-done c S₀ (back-exact N S lawful e S₀ .1 (s₀, m)) .0),
           );
           done = λ S₀ s₀ m.
               let (a, w) = on-done c S₀ (back-exact N S lawful e S₀ .1 (s₀, m)) in
               (a, leaves (backLeft net b first second) S₀ s₀ w);
           refused = λ why. (
-            (λ z. back-refuses N S lawful e why .0 (is-refused c why z)),
+            (λ z. back-refuses N S lawful e why .0 (is-barred c (λ w d. barred-other (back-refuses N S lawful e w .0 d)) why z)),
             λ h. on-refused c why (back-refuses N S lawful e why .1 h),
           );
-          kept = on-none c;
+          kept = on-none c backNumber (λ a. refl);
           undone = event-undone;
           redone = back-redone;
         }

@@ -16,10 +16,10 @@ use Rattle.forms.proofs.States.{state-exact}
 use Rattle.forms.proofs.Logs.{log-exact}
 use Rattle.owed.specs.Reported.{reported}
 use Rattle.moves.specs.After.{applied, takenBack}
-use Rattle.runs.specs.Runs.{ran, walked, toldOf}
+use Rattle.runs.specs.Runs.{ran, walked, toldOfRun, toldOfWalk}
 use Rattle.engine.specs.declared.examine.Examined.the-variants as examined
 use Rattle.engine.specs.Examined.{examineNet, examineState, examineLog}
-use Rattle.engine.specs.Answers.{degreeOf, owedOf}
+use Rattle.engine.specs.Answers.{answered, eventAnswered, degreeOf, owedOf}
 use Rattle.engine.specs.Calls.{eventTold, eventLeft, backTold, backLeft}
 use Rattle.engine.specs.Calls.{degreeTold, owedTold, eventsPart, runTold, runLeft, walkTold, walkLeft}
 use Rattle.engine.proofs.Fits.{net-fit, still-fit}
@@ -43,11 +43,11 @@ module _ (net : List ℕ) (shape : Shape) (b : List ℕ) (f : Framed net shape b
 
 module _ (net : List ℕ) (shape : Shape) (b : List ℕ) (f : Framed net shape b) where
   module _ (first second : ℕ) where
-    pub event-comes : ComesTo (netOf net) b (applied net b (eventOf first second)) (eventTold net b first second) (eventLeft net b first second)
+    pub event-comes : ComesTo eventAnswered (netOf net) b (applied net b (eventOf first second)) (eventTold net b first second) (eventLeft net b first second)
     unfolding eventTold eventLeft
     event-comes = let s = fits-state net shape b f in record { said = rw s; wrote = rw s }
 
-    pub back-comes : ComesTo (netOf net) b (takenBack net b (eventOf first second)) (backTold net b first second) (backLeft net b first second)
+    pub back-comes : ComesTo answered (netOf net) b (takenBack net b (eventOf first second)) (backTold net b first second) (backLeft net b first second)
     unfolding backTold backLeft
     back-comes = let s = fits-state net shape b f in record { said = rw s; wrote = rw s }
 
@@ -60,7 +60,7 @@ module _ (net : List ℕ) (shape : Shape) (b : List ℕ) (f : Framed net shape b
   owed-told = rw (fits-state net shape b f)
 
   module _ (log : List ℕ) (l : IsLog log) where
-    pub run-told : runTold net b log ≡ toldOf (ran net b (eventsPart log))
+    pub run-told : runTold net b log ≡ toldOfRun (ran net b (eventsPart log))
     unfolding runTold
     run-told = rw (fits-log net shape b f log l)
 
@@ -68,7 +68,7 @@ module _ (net : List ℕ) (shape : Shape) (b : List ℕ) (f : Framed net shape b
     unfolding runLeft
     run-left = rw (fits-log net shape b f log l)
 
-    pub walk-told : (n : ℕ) → walkTold net b log n ≡ toldOf (walked net b (eventsPart log) n)
+    pub walk-told : (n : ℕ) → walkTold net b log n ≡ toldOfWalk (walked net b (eventsPart log) n)
     unfolding walkTold
     walk-told n = rw (fits-log net shape b f log l)
 

@@ -1,11 +1,12 @@
--- What a call tells: document 01's number and index, and what belongs to it, which is 0 where the call is refused.
+-- What a call tells: document 01's number and index, and what belongs to it, which is 0 where the call is refused; but 13 tells a place
+-- and its shortage.
 -- Assumes nothing.
 use mathlib.Core.Bool.{cond}
 use Prim.Native.Nat.{ℕ, _+_, _-_}
 use lib.Dec.{ltb}
 use Rattle.model.specs.declared.answer.Answer.{Answer}
 use Rattle.model.specs.declared.answer.Refusal.the-variants as refusal
-use Rattle.model.specs.Answer.{numberOf as numberOfAnswer, numberOfRefusal, numberOfStanding}
+use Rattle.model.specs.Answer.{nothingShort, numberOf as numberOfAnswer, shortOf, numberOfRefusal, numberOfStanding}
 use Rattle.model.specs.Net.{Net, State}
 use Rattle.model.specs.Rules.{degree}
 use Rattle.forms.specs.declared.fault.Fault.{Fault}
@@ -17,6 +18,7 @@ use Rattle.owed.specs.Reported.{setOf}
 use Rattle.logs.specs.declared.steps.Span.{Span}
 use Rattle.logs.specs.declared.steps.Span.the-variants as span
 use Rattle.engine.specs.declared.answers.Verdict.{Verdict}
+use Rattle.engine.specs.declared.answers.EventTold.{EventTold}
 use Rattle.engine.specs.declared.answers.DegreeTold.{DegreeTold}
 use Rattle.engine.specs.declared.answers.OwedTold.{OwedTold}
 use Rattle.engine.specs.declared.answers.StepTold.{StepTold}
@@ -35,9 +37,17 @@ verdictOf answer = verdict (numberOf answer) (indexOf answer)
 abbrev pub unfit : Fault → Verdict
 unfit why = verdict (numberOfFault why) (indexOfFault why)
 
--- a single event tells 0 as its index
+-- a single event taken back tells 0 as its index
 abbrev pub answered : Answer → Verdict
 answered answer = verdict (numberOfAnswer answer) 0
+
+-- A SINGLE EVENT: and the place that is short
+
+abbrev pub eventUnfit : Fault → EventTold
+eventUnfit why = record { number = numberOfFault why; index = indexOfFault why; short = nothingShort }
+
+abbrev pub eventAnswered : Answer → EventTold
+eventAnswered answer = record { number = numberOfAnswer answer; index = 0; short = shortOf answer }
 
 -- THE DEGREE
 

@@ -18,14 +18,17 @@ use Rattle.forms.specs.Places.{eventAt}
 use Rattle.owed.specs.Reported.{reported}
 use Rattle.moves.specs.After.{applied, takenBack, after}
 use Rattle.logs.specs.Steps.{spanOf}
-use Rattle.runs.specs.declared.told.Told.{Told}
-use Rattle.runs.specs.Runs.{ran, walked, toldOf, toldFault, left}
+use Rattle.runs.specs.declared.told.RunTold.{RunTold}
+use Rattle.runs.specs.declared.told.WalkTold.{WalkTold}
+use Rattle.runs.specs.Runs.{ran, walked, toldOfRun, toldOfWalk, runFault, walkFault, left}
 use Rattle.engine.specs.declared.answers.Verdict.{Verdict}
+use Rattle.engine.specs.declared.answers.EventTold.{EventTold}
 use Rattle.engine.specs.declared.answers.DegreeTold.{DegreeTold}
 use Rattle.engine.specs.declared.answers.OwedTold.{OwedTold}
 use Rattle.engine.specs.declared.answers.StepTold.{StepTold}
 use Rattle.engine.specs.Examined.{examineNet, examineState, examineLog, ifFit}
-use Rattle.engine.specs.Answers.{accepted, verdictOf, unfit, answered, degreeOf, noDegree, owedOf, noReport, tellsStep, stepOf}
+use Rattle.engine.specs.Answers.{accepted, verdictOf, unfit, answered, eventUnfit, eventAnswered}
+use Rattle.engine.specs.Answers.{degreeOf, noDegree, owedOf, noReport, tellsStep, stepOf}
 
 -- CHECKS, AND THE INITIAL STATE
 
@@ -43,8 +46,9 @@ initialLeft net state = ifFit (examineNet net) (afterInitial (netOf net) state) 
 
 -- ONE EVENT, DONE AND TAKEN BACK
 
-unfoldable pub eventTold : List ℕ → List ℕ → ℕ → ℕ → Verdict
-eventTold net state first second = ifFit (examineState net state) (answered (answerOf (applied net state (eventOf first second)))) unfit
+unfoldable pub eventTold : List ℕ → List ℕ → ℕ → ℕ → EventTold
+eventTold net state first second =
+    ifFit (examineState net state) (eventAnswered (answerOf (applied net state (eventOf first second)))) eventUnfit
 
 unfoldable pub eventLeft : List ℕ → List ℕ → ℕ → ℕ → List ℕ
 eventLeft net state first second =
@@ -71,17 +75,17 @@ owedTold net state = ifFit (examineState net state) (owedOf (reported (netOf net
 abbrev pub eventsPart : List ℕ → List ℕ
 eventsPart log = drop (eventAt 0) log
 
-unfoldable pub runTold : List ℕ → List ℕ → List ℕ → Told
-runTold net state log = ifFit (examineLog net state log) (toldOf (ran net state (eventsPart log))) toldFault
+unfoldable pub runTold : List ℕ → List ℕ → List ℕ → RunTold
+runTold net state log = ifFit (examineLog net state log) (toldOfRun (ran net state (eventsPart log))) runFault
 
 unfoldable pub runLeft : List ℕ → List ℕ → List ℕ → List ℕ
-runLeft net state log = ifFit (examineLog net state log) (left net (ran net state (eventsPart log)) state) (λ why. state)
+runLeft net state log = ifFit (examineLog net state log) (left net (ran net state (eventsPart log) .state) state) (λ why. state)
 
-unfoldable pub walkTold : List ℕ → List ℕ → List ℕ → ℕ → Told
-walkTold net state log n = ifFit (examineLog net state log) (toldOf (walked net state (eventsPart log) n)) toldFault
+unfoldable pub walkTold : List ℕ → List ℕ → List ℕ → ℕ → WalkTold
+walkTold net state log n = ifFit (examineLog net state log) (toldOfWalk (walked net state (eventsPart log) n)) walkFault
 
 unfoldable pub walkLeft : List ℕ → List ℕ → List ℕ → ℕ → List ℕ
-walkLeft net state log n = ifFit (examineLog net state log) (left net (walked net state (eventsPart log) n) state) (λ why. state)
+walkLeft net state log n = ifFit (examineLog net state log) (left net (walked net state (eventsPart log) n .state) state) (λ why. state)
 
 -- A STEP OF A LOG
 

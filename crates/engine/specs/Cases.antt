@@ -6,9 +6,9 @@ use mathlib.Core.List.{List, [], _∷_, _++_}
 use Prim.Native.Nat.{ℕ}
 use lib.ListN.{length, set, replicate, take, drop}
 use Rattle.forms.specs.Cases.{rowNet, rowState, rowLog}
-use Rattle.runs.specs.declared.told.Told.{Told}
+use Rattle.runs.specs.declared.told.RunTold.{RunTold}
 use Rattle.engine.specs.declared.answers.StepTold.{StepTold}
-use Rattle.engine.specs.Said.{says, saysRun, saysDegree, setSays, saysOwed, saysStep}
+use Rattle.engine.specs.Said.{says, shortAt, noPlace, saysEvent, saysRun, saysWalk, saysDegree, setSays, saysOwed, saysStep}
 use Rattle.engine.specs.Calls.{netTold, stateTold, initialTold, initialLeft, eventTold, eventLeft, backTold, backLeft}
 use Rattle.engine.specs.Calls.{degreeTold, owedTold, runTold, runLeft, walkTold, walkLeft, stepTold}
 
@@ -17,7 +17,7 @@ use Rattle.engine.specs.Calls.{degreeTold, owedTold, runTold, runLeft, w
 -- the run call: the state's buffer, the log, what is told, the buffer left, and the standing of the state in that
 -- the event call and the back call: the state's buffer, the event's two bytes, the number told, the buffer left
 pub data Case : Type 0 where
-  runs : List ℕ → List ℕ → Told → List ℕ → ℕ → Case
+  runs : List ℕ → List ℕ → RunTold → List ℕ → ℕ → Case
   does : List ℕ → ℕ → ℕ → ℕ → List ℕ → Case
   undoes : List ℕ → ℕ → ℕ → ℕ → List ℕ → Case
 
@@ -26,7 +26,7 @@ abbrev pub Holds : Case → Type 0
 Holds (runs state log told left standing) =
     (runTold rowNet state log ≡ told) × (runLeft rowNet state log ≡ left) × (owedTold rowNet left .standing ≡ standing)
 Holds (does state first second number left) =
-    (eventTold rowNet state first second ≡ says number 0) × (eventLeft rowNet state first second ≡ left)
+    (eventTold rowNet state first second ≡ saysEvent number 0 noPlace) × (eventLeft rowNet state first second ≡ left)
 Holds (undoes state first second number left) =
     (backTold rowNet state first second ≡ says number 0) × (backLeft rowNet state first second ≡ left)
 
@@ -85,18 +85,18 @@ bytesBehind = 0xC0 ∷ 0xFF ∷ 0xEE ∷ []
 -- K1 to K12, in order
 unfoldable pub cases : List Case
 cases =
-    runs rowState rowLog (saysRun 0 5 5 1) filled 4
-    ∷ runs rowState (log 0x07 (0x00 ∷ 0x00 ∷ [])) (saysRun 18 0 0 0) rowState 1
+    runs rowState rowLog (saysRun 0 5 5 1 noPlace) filled 4
+    ∷ runs rowState (log 0x07 (0x00 ∷ 0x00 ∷ [])) (saysRun 18 0 0 0 noPlace) rowState 1
     -- the buffer is longer than the state
-    ∷ runs (rowState ++ bytesBehind) (log 0x0D (0x01 ∷ 0x00 ∷ 0x00 ∷ 0x00 ∷ 0x00 ∷ 0x00 ∷ 0x00 ∷ 0x00 ∷ [])) (saysRun 0 4 4 3)
+    ∷ runs (rowState ++ bytesBehind) (log 0x0D (0x01 ∷ 0x00 ∷ 0x00 ∷ 0x00 ∷ 0x00 ∷ 0x00 ∷ 0x00 ∷ 0x00 ∷ [])) (saysRun 0 4 4 3 noPlace)
     (rowStateWith noMarks atAge3 noCounts ++ bytesBehind) 2
-    ∷ runs rowState (log 0x0F (0x01 ∷ 0x00 ∷ 0x00 ∷ 0x00 ∷ 0x00 ∷ 0x00 ∷ 0x00 ∷ 0x00 ∷ 0x00 ∷ 0x00 ∷ [])) (saysRun 19 4 4 3)
+    ∷ runs rowState (log 0x0F (0x01 ∷ 0x00 ∷ 0x00 ∷ 0x00 ∷ 0x00 ∷ 0x00 ∷ 0x00 ∷ 0x00 ∷ 0x00 ∷ 0x00 ∷ [])) (saysRun 19 4 4 3 noPlace)
     (rowStateWith noMarks atAge3 noCounts) 2
-    ∷ runs rowState (log 0x09 (0x01 ∷ 0x00 ∷ 0x41 ∷ 0x00 ∷ [])) (saysRun 15 1 1 0) (rowStateWith noMarks atAge0 noCounts) 3
-    ∷ runs rowState (log 0x0B (0x01 ∷ 0x00 ∷ 0x00 ∷ 0x00 ∷ 0x41 ∷ 0x02 ∷ [])) (saysRun 16 2 2 1) (rowStateWith noMarks atAge1 noCounts) 3
-    ∷ runs rowState (log 0x0D (0x01 ∷ 0x00 ∷ 0x00 ∷ 0x00 ∷ 0x41 ∷ 0x01 ∷ 0x00 ∷ 0x00 ∷ [])) (saysRun 18 3 3 1)
+    ∷ runs rowState (log 0x09 (0x01 ∷ 0x00 ∷ 0x41 ∷ 0x00 ∷ [])) (saysRun 15 1 1 0 noPlace) (rowStateWith noMarks atAge0 noCounts) 3
+    ∷ runs rowState (log 0x0B (0x01 ∷ 0x00 ∷ 0x00 ∷ 0x00 ∷ 0x41 ∷ 0x02 ∷ [])) (saysRun 16 2 2 1 noPlace) (rowStateWith noMarks atAge1 noCounts) 3
+    ∷ runs rowState (log 0x0D (0x01 ∷ 0x00 ∷ 0x00 ∷ 0x00 ∷ 0x41 ∷ 0x01 ∷ 0x00 ∷ 0x00 ∷ [])) (saysRun 18 3 3 1 noPlace)
     (rowStateWith (marks 0x00 0x00 0x00 0x01 0x00 0x00) noCounts noCounts) 1
-    ∷ runs rowState (log 0x11 (0x01 ∷ 0x00 ∷ 0x00 ∷ 0x00 ∷ 0x41 ∷ 0x01 ∷ 0x02 ∷ 0x00 ∷ 0x42 ∷ 0x00 ∷ 0x00 ∷ 0x00 ∷ [])) (saysRun 20 5 5 1)
+    ∷ runs rowState (log 0x11 (0x01 ∷ 0x00 ∷ 0x00 ∷ 0x00 ∷ 0x41 ∷ 0x01 ∷ 0x02 ∷ 0x00 ∷ 0x42 ∷ 0x00 ∷ 0x00 ∷ 0x00 ∷ [])) (saysRun 20 5 5 1 noPlace)
     filled 4
     ∷ undoes filled 0x42 0x00 0 (rowStateWith noMarks noCounts atAge0)
     ∷ undoes rowState 0x00 0x00 21 rowState
@@ -129,6 +129,14 @@ longNet = set rowNet 22 64
 abbrev newLog : List ℕ
 newLog = set rowLog 0 2
 
+-- a net whose transition 1 takes 9 tokens from place 1
+abbrev dearNet : List ℕ
+dearNet = set rowNet 24 9
+
+-- a net whose transition 0 takes 3 tokens from place 0 and 255 from place 2
+abbrev greedyNet : List ℕ
+greedyNet = set (set rowNet 15 3) 17 255
+
 -- a tick, a pair 0, 1, a tick
 abbrev cutLog : List ℕ
 cutLog = log 0x0B (0x00 ∷ 0x00 ∷ 0x00 ∷ 0x01 ∷ 0x00 ∷ 0x00 ∷ [])
@@ -138,10 +146,10 @@ pub record Further : Type 0 where
   pub good-net : netTold rowNet ≡ says 0 0
   pub good-state : stateTold rowNet rowState ≡ says 0 0
   -- of several faults the first is told: of the net, and then of the state, and then of the log, and then 22
-  pub net-first : (runTold longNet [] [] ≡ saysRun 4 1 0 0) × (walkTold longNet [] [] 1 ≡ saysRun 4 1 0 0)
-  pub state-next : (runTold rowNet overdue [] ≡ saysRun 9 1 0 0) × (runLeft rowNet overdue [] ≡ overdue)
-  pub log-next : (runTold rowNet rowState newLog ≡ saysRun 10 0 0 0) × (runLeft rowNet rowState newLog ≡ rowState)
-  pub log-before-22 : (walkTold rowNet filled newLog 6 ≡ saysRun 10 0 0 0) × (walkLeft rowNet filled newLog 6 ≡ filled)
+  pub net-first : (runTold longNet [] [] ≡ saysRun 4 1 0 0 noPlace) × (walkTold longNet [] [] 1 ≡ saysWalk 4 1 0 0)
+  pub state-next : (runTold rowNet overdue [] ≡ saysRun 9 1 0 0 noPlace) × (runLeft rowNet overdue [] ≡ overdue)
+  pub log-next : (runTold rowNet rowState newLog ≡ saysRun 10 0 0 0 noPlace) × (runLeft rowNet rowState newLog ≡ rowState)
+  pub log-before-22 : (walkTold rowNet filled newLog 6 ≡ saysWalk 10 0 0 0) × (walkLeft rowNet filled newLog 6 ≡ filled)
   -- steps with no events, each at its own place; only the pair 0, 0 cuts
   pub empty-first : stepTold cutLog 0 ≡ saysStep 0 0 5 0
   pub uncut : stepTold cutLog 1 ≡ saysStep 0 0 7 2
@@ -157,21 +165,30 @@ pub record Further : Type 0 where
   pub no-net : netTold [] ≡ says 1 0
   pub short-net : netTold (0x01 ∷ 0x00 ∷ 0x00 ∷ 0x00 ∷ 0x06 ∷ 0x01 ∷ []) ≡ says 1 0
   -- a log of 5 bytes, length field 5: accepted, no events
-  pub no-events : (runTold rowNet rowState (log 0x05 []) ≡ saysRun 0 0 0 0) × (runLeft rowNet rowState (log 0x05 []) ≡ rowState)
+  pub no-events : (runTold rowNet rowState (log 0x05 []) ≡ saysRun 0 0 0 0 noPlace) × (runLeft rowNet rowState (log 0x05 []) ≡ rowState)
   -- the initial state, over whatever the buffer held; and in a buffer one byte short
   pub initial : (initialTold rowNet (replicate 30 0xAA ++ bytesBehind) ≡ says 0 0)
       × (initialLeft rowNet (replicate 30 0xAA ++ bytesBehind) ≡ rowState ++ bytesBehind)
   pub no-room : (initialTold rowNet (replicate 29 0xAA) ≡ says 7 0) × (initialLeft rowNet (replicate 29 0xAA) ≡ replicate 29 0xAA)
   -- K1's log walked back whole, over its last two events, and over more than it has
-  pub whole-back : (walkTold rowNet filled rowLog 5 ≡ saysRun 0 0 5 1) × (walkLeft rowNet filled rowLog 5 ≡ rowState)
-  pub two-back : (walkTold rowNet filled rowLog 2 ≡ saysRun 0 3 2 0)
+  pub whole-back : (walkTold rowNet filled rowLog 5 ≡ saysWalk 0 0 5 1) × (walkLeft rowNet filled rowLog 5 ≡ rowState)
+  pub two-back : (walkTold rowNet filled rowLog 2 ≡ saysWalk 0 3 2 0)
       × (walkLeft rowNet filled rowLog 2 ≡ rowStateWith (marks 0x00 0x00 0x00 0x01 0x00 0x00) noCounts noCounts)
-  pub six-back : (walkTold rowNet filled rowLog 6 ≡ saysRun 22 0 0 0) × (walkLeft rowNet filled rowLog 6 ≡ filled)
+  pub six-back : (walkTold rowNet filled rowLog 6 ≡ saysWalk 22 0 0 0) × (walkLeft rowNet filled rowLog 6 ≡ filled)
   -- a walk that stops: the last event cannot have led to the initial state
-  pub none-back : (walkTold rowNet rowState rowLog 5 ≡ saysRun 21 4 0 0) × (walkLeft rowNet rowState rowLog 5 ≡ rowState)
+  pub none-back : (walkTold rowNet rowState rowLog 5 ≡ saysWalk 21 4 0 0) × (walkLeft rowNet rowState rowLog 5 ≡ rowState)
   -- a state with a count above its transition's lfd
   pub overdue-state : stateTold rowNet overdue ≡ says 9 1
-  pub overdue-event : (eventTold rowNet overdue 0x00 0x00 ≡ says 9 1) × (eventLeft rowNet overdue 0x00 0x00 ≡ overdue)
+  pub overdue-event : (eventTold rowNet overdue 0x00 0x00 ≡ saysEvent 9 1 noPlace) × (eventLeft rowNet overdue 0x00 0x00 ≡ overdue)
+  -- start 1, which takes 9 tokens, finds none in place 1; and one, in a run that has done three events
+  pub short-event : (eventTold dearNet rowState 0x02 0x00 ≡ saysEvent 13 0 (shortAt 1 9)) × (eventLeft dearNet rowState 0x02 0x00 ≡ rowState)
+  pub short-run : (runTold dearNet rowState rowLog ≡ saysRun 13 3 3 1 (shortAt 1 8))
+      × (runLeft dearNet rowState rowLog ≡ rowStateWith (marks 0x00 0x00 0x00 0x01 0x00 0x00) noCounts noCounts)
+  -- transition 0 takes 3, 0 and 255: place 0 has 1 token, and so it is told and not place 2
+  pub short-lowest : eventTold greedyNet rowState 0x01 0x00 ≡ saysEvent 13 0 (shortAt 0 2)
+  -- with 3 tokens there, place 2 is told
+  pub short-last : eventTold greedyNet (rowStateWith (marks 0x00 0x03 0x00 0x00 0x00 0x00) noCounts noCounts) 0x01 0x00
+      ≡ saysEvent 13 0 (shortAt 2 255)
   -- the degrees in the initial state, of a third transition, and in no state
   pub degree-0 : degreeTold rowNet rowState 0 ≡ saysDegree 0 0 1
   pub degree-1 : degreeTold rowNet rowState 1 ≡ saysDegree 0 0 0

@@ -8,15 +8,16 @@ use mathlib.Core.List.{List, _++_}
 use Prim.Native.Nat.{ℕ, _+_, _-_, _<_, _≤_}
 use lib.ListN.{length, take}
 use Rattle.model.specs.declared.net.Net.{Net as Shape}
+use Rattle.model.specs.declared.answer.Short.{Short}
 use Rattle.model.specs.declared.answer.Refusal.{Refusal}
 use Rattle.model.specs.declared.answer.Standing.{Standing}
-use Rattle.model.specs.Answer.{numberOfRefusal, numberOfStanding}
+use Rattle.model.specs.Answer.{numberOfRefusal, shortOfRefusal, numberOfStanding}
 use Rattle.model.specs.Event.{eventOf}
 use Rattle.model.specs.Tab.{Tells}
 use Rattle.model.specs.Net.{State, Lawful}
 use Rattle.model.specs.Moves.{Degree, Moves}
-use Rattle.model.specs.Refusals.{Refuses, Barred}
-use Rattle.model.specs.Run.{Told as Account, Leads, Ran, Walked, lastOf, ticksIn}
+use Rattle.model.specs.Refusals.{Refuses, FallsShort, JustShort, Barred}
+use Rattle.model.specs.Run.{RunTold as RunAccount, WalkTold as WalkAccount, Leads, Ran, Walked, eventAt, lastOf, ticksIn}
 use Rattle.model.specs.Owed.{OwesStart, OwesEnd, HowMany, wordBits, Lowest, Stands}
 use Rattle.model.specs.Demands.{SomeLeads}
 use Rattle.forms.specs.declared.fault.Fault.{Fault}
@@ -29,14 +30,16 @@ use Rattle.forms.specs.Written.{written}
 use Rattle.forms.specs.Logs.{checkLog}
 use Rattle.forms.specs.Frame.{Began}
 use Rattle.owed.specs.Bits.{bitAt}
-use Rattle.runs.specs.declared.told.Told.{Told}
+use Rattle.runs.specs.declared.told.RunTold.{RunTold}
+use Rattle.runs.specs.declared.told.WalkTold.{WalkTold}
 use Rattle.engine.specs.declared.answers.Verdict.{Verdict}
+use Rattle.engine.specs.declared.answers.EventTold.{EventTold}
 use Rattle.engine.specs.declared.answers.DegreeTold.{DegreeTold}
 use Rattle.engine.specs.declared.answers.OwedTold.{OwedTold}
 use Rattle.engine.specs.declared.examine.Examined.{Examined}
 use Rattle.engine.specs.declared.examine.Examined.the-variants as examined
 use Rattle.engine.specs.Examined.{examineNet, examineState, examineLog}
-use Rattle.engine.specs.Said.{says, saysRun, saysDegree, setSays, saysOwed, saysStep}
+use Rattle.engine.specs.Said.{says, noPlace, saysEvent, saysRun, saysWalk, saysDegree, setSays, saysOwed, saysStep}
 use Rattle.engine.specs.Calls.{netTold, stateTold, initialTold, initialLeft, eventTold, eventLeft, backTold, backLeft}
 use Rattle.engine.specs.Calls.{degreeTold, owedTold, runTold, runLeft, walkTold, walkLeft, stepTold}
 
@@ -44,9 +47,12 @@ use Rattle.engine.specs.Calls.{degreeTold, owedTold, runTold, runLeft, w
 abbrev pub Passes : Examined → Type 0
 Passes e = (shape : Shape) × (e ≡ examined.Fit shape)
 
--- the four numbers that are told, and a state, as the model's account of a run or a walk
-abbrev pub account : Told → State → Account
-account r S = record { number = r .number; index = r .index; done = r .done; ticks = r .ticks; state = S }
+-- what is told of a run and of a walk, and a state, as the model's account of it
+abbrev pub accountOfRun : RunTold → State → RunAccount
+accountOfRun r S = record { number = r .number; index = r .index; done = r .done; ticks = r .ticks; short = r .short; state = S }
+
+abbrev pub accountOfWalk : WalkTold → State → WalkAccount
+accountOfWalk r S = record { number = r .number; index = r .index; done = r .done; ticks = r .ticks; state = S }
 
 -- of the buffer b the call leaves b′, which holds S at its front. It is b with S written over the state: S is read from it, it passes
 -- the check of states as b does, and the head and all bytes behind the state are b's
@@ -62,27 +68,42 @@ pub record LeavesState (net b b′ : List ℕ) (S : State) : Type 0 where
 -- DEMAND 2
 
 -- an event, given by its two bytes, done in the state that stands in b
-pub record EventDone (net b : List ℕ) (first second : ℕ) (r : Verdict) (b′ : List ℕ) : Type 0 where
+pub record EventDone (net b : List ℕ) (first second : ℕ) (r : EventTold) (b′ : List ℕ) : Type 0 where
   -- it is accepted exactly when the rules permit it
   pub permitted : (r .number ≡ 0) ↔ ((S′ : State) × Moves (netOf net) (stored net b) (eventOf first second) S′)
   -- and the state that the rules give is left
   pub done : (S′ : State) → Moves (netOf net) (stored net b) (eventOf first second) S′
-      → (r ≡ says 0 0) × LeavesState net b b′ S′
+      → (r ≡ saysEvent 0 0 noPlace) × LeavesState net b b′ S′
   -- each refusal is told exactly when document 01 says
-  pub refused : (why : Refusal) → (r ≡ says (numberOfRefusal why) 0) ↔ Refuses (netOf net) (stored net b) (eventOf first second) why
+  pub refused : (why : Refusal)
+      → (r ≡ saysEvent (numberOfRefusal why) 0 (shortOfRefusal why)) ↔ Refuses (netOf net) (stored net b) (eventOf first second) why
+  -- so 13 tells a place and a shortage exactly where a start finds that place, the lowest, short of so many tokens
+  pub short : (s : Short) → (r ≡ saysEvent 13 0 s) ↔ FallsShort (netOf net) (stored net b) (eventOf first second) s
+  -- so many more would do there, and one fewer would not
+  pub just : r .number ≡ 13 → JustShort (netOf net) (stored net b) (eventOf first second) (r .short)
+  -- and any other number tells of no place
+  pub plain : ¬ (r .number ≡ 13) → r .short ≡ noPlace
   -- and a refused event changes no byte
   pub kept : ¬ (r .number ≡ 0) → b′ ≡ b
 
 -- a log, run from the state that stands in b
-pub record LogRun (net b log : List ℕ) (r : Told) (b′ : List ℕ) : Type 0 where
+pub record LogRun (net b log : List ℕ) (r : RunTold) (b′ : List ℕ) : Type 0 where
   -- it is accepted exactly when each event in turn is permitted
   pub permitted : (r .number ≡ 0) ↔ ((S′ : State) × Leads (netOf net) (stored net b) (logEvents log) S′)
   -- and then all its events and ticks are told, and the state that they lead to is left
   pub done : (S′ : State) → Leads (netOf net) (stored net b) (logEvents log) S′
-      → (r ≡ saysRun 0 (length (logEvents log)) (length (logEvents log)) (ticksIn (logEvents log)))
+      → (r ≡ saysRun 0 (length (logEvents log)) (length (logEvents log)) (ticksIn (logEvents log)) noPlace)
       × LeavesState net b b′ S′
   -- what is told of any log, accepted or refused, is exact, and the state just before the refused event is left
-  pub told : (S′ : State) × Ran (netOf net) (stored net b) (logEvents log) (account r S′) × LeavesState net b b′ S′
+  pub told : (S′ : State) × Ran (netOf net) (stored net b) (logEvents log) (accountOfRun r S′) × LeavesState net b b′ S′
+  -- so it tells 13 after k events, with a place and a shortage, exactly where those are permitted and the next falls short there
+  pub short : (k : ℕ) (s : Short) → (r ≡ saysRun 13 k k (ticksIn (take k (logEvents log))) s)
+      ↔ ((S′ : State) × (k < length (logEvents log)) × Leads (netOf net) (stored net b) (take k (logEvents log)) S′
+      × FallsShort (netOf net) S′ (eventAt (logEvents log) k) s)
+  -- in the state that is left so many more would do there, and one fewer would not
+  pub just : r .number ≡ 13 → JustShort (netOf net) (stored net b′) (eventAt (logEvents log) (r .index)) (r .short)
+  -- and any other number tells of no place
+  pub plain : ¬ (r .number ≡ 13) → r .short ≡ noPlace
 
 -- fed in two portions, the first accepted, a log tells and leaves what it does when it is fed whole
 pub record InPortions (net b one other whole : List ℕ) : Type 0 where
@@ -90,6 +111,7 @@ pub record InPortions (net b one other whole : List ℕ) : Type 0 where
   pub index : runTold net b one .index + runTold net (runLeft net b one) other .index ≡ runTold net b whole .index
   pub done : runTold net b one .done + runTold net (runLeft net b one) other .done ≡ runTold net b whole .done
   pub ticks : runTold net b one .ticks + runTold net (runLeft net b one) other .ticks ≡ runTold net b whole .ticks
+  pub short : runTold net (runLeft net b one) other .short ≡ runTold net b whole .short
   pub left : runLeft net (runLeft net b one) other ≡ runLeft net b whole
 
 -- the degree of a transition, Definition 4; 12 where the net has no such transition
@@ -138,7 +160,7 @@ pub record EventBack (net b : List ℕ) (first second : ℕ) (r : Verdict) (b′
   pub redone : r .number ≡ 0 → (eventTold net b′ first second .number ≡ 0) × (eventLeft net b′ first second ≡ b)
 
 -- the last n events of a log taken back from the state that stands in b
-pub record LogBack (net b log : List ℕ) (n : ℕ) (r : Told) (b′ : List ℕ) : Type 0 where
+pub record LogBack (net b log : List ℕ) (n : ℕ) (r : WalkTold) (b′ : List ℕ) : Type 0 where
   -- that succeeds exactly if the log has so many, and they lead here from some lawful state
   pub permitted : (r .number ≡ 0)
       ↔ ((n ≤ length (logEvents log))
@@ -146,18 +168,18 @@ pub record LogBack (net b log : List ℕ) (n : ℕ) (r : Told) (b′ : List ℕ)
   -- and that state is left
   pub done : n ≤ length (logEvents log) → (S : State) → Lawful (netOf net) S
       → Leads (netOf net) S (lastOf n (logEvents log)) (stored net b)
-      → (r ≡ saysRun 0 (length (logEvents log) - n) n (ticksIn (lastOf n (logEvents log))))
+      → (r ≡ saysWalk 0 (length (logEvents log) - n) n (ticksIn (lastOf n (logEvents log))))
       × LeavesState net b b′ S
   -- what is told of any walk, accepted or refused, is exact, and the state where it stops is left
-  pub told : (S : State) × Walked (netOf net) (stored net b) (logEvents log) n (account r S) × LeavesState net b b′ S
+  pub told : (S : State) × Walked (netOf net) (stored net b) (logEvents log) n (accountOfWalk r S) × LeavesState net b b′ S
   -- 22: more events are asked than the log has, and no byte changes
-  pub too-many : length (logEvents log) < n → (r ≡ saysRun 22 0 0 0) × (b′ ≡ b)
+  pub too-many : length (logEvents log) < n → (r ≡ saysWalk 22 0 0 0) × (b′ ≡ b)
 
 -- the last n events of an accepted log, taken back from where it led: that is accepted, and the very bytes are left that a run of the
 -- earlier events leaves, which is accepted too
 pub record Returns (net b log : List ℕ) (n : ℕ) : Type 0 where
   pub told : walkTold net (runLeft net b log) log n
-      ≡ saysRun 0 (length (logEvents log) - n) n (ticksIn (lastOf n (logEvents log)))
+      ≡ saysWalk 0 (length (logEvents log) - n) n (ticksIn (lastOf n (logEvents log)))
   pub left : (earlier : List ℕ) → Passes (examineLog net b earlier)
       → logEvents earlier ≡ take (length (logEvents log) - n) (logEvents log)
       → (runTold net b earlier .number ≡ 0) × (walkLeft net (runLeft net b log) log n ≡ runLeft net b earlier)
@@ -201,7 +223,7 @@ pub record ToldFault (net b : List ℕ) : Type 0 where
   pub initial : (why : Fault) → examineNet net ≡ examined.Unfit why
       → (initialTold net b ≡ says (numberOfFault why) (indexOfFault why)) × (initialLeft net b ≡ b)
   pub event : (why : Fault) → examineState net b ≡ examined.Unfit why → (first second : ℕ)
-      → (eventTold net b first second ≡ says (numberOfFault why) (indexOfFault why)) × (eventLeft net b first second ≡ b)
+      → (eventTold net b first second ≡ saysEvent (numberOfFault why) (indexOfFault why) noPlace) × (eventLeft net b first second ≡ b)
   pub back : (why : Fault) → examineState net b ≡ examined.Unfit why → (first second : ℕ)
       → (backTold net b first second ≡ says (numberOfFault why) (indexOfFault why)) × (backLeft net b first second ≡ b)
   pub degree : (why : Fault) → examineState net b ≡ examined.Unfit why → (t : ℕ)
@@ -209,8 +231,8 @@ pub record ToldFault (net b : List ℕ) : Type 0 where
   pub owed : (why : Fault) → examineState net b ≡ examined.Unfit why
       → owedTold net b ≡ saysOwed (numberOfFault why) (indexOfFault why) (setSays 0 0 0) (setSays 0 0 0) 0
   pub run : (log : List ℕ) (why : Fault) → examineLog net b log ≡ examined.Unfit why
-      → (runTold net b log ≡ saysRun (numberOfFault why) (indexOfFault why) 0 0) × (runLeft net b log ≡ b)
+      → (runTold net b log ≡ saysRun (numberOfFault why) (indexOfFault why) 0 0 noPlace) × (runLeft net b log ≡ b)
   pub walk : (log : List ℕ) (why : Fault) → examineLog net b log ≡ examined.Unfit why → (n : ℕ)
-      → (walkTold net b log n ≡ saysRun (numberOfFault why) (indexOfFault why) 0 0) × (walkLeft net b log n ≡ b)
+      → (walkTold net b log n ≡ saysWalk (numberOfFault why) (indexOfFault why) 0 0) × (walkLeft net b log n ≡ b)
   pub step : (log : List ℕ) (why : Fault) → checkLog log ≡ checked.Bad why → (k : ℕ)
       → stepTold log k ≡ saysStep (numberOfFault why) 0 0 0

@@ -14,12 +14,14 @@ use Rattle.forms.specs.Stored.{netOf}
 use Rattle.forms.specs.Nets.{IsNet, NetFaulty}
 use Rattle.forms.specs.States.{IsState}
 use Rattle.forms.specs.Logs.{IsLog}
-use Rattle.runs.specs.declared.told.Told.{Told}
+use Rattle.runs.specs.declared.told.RunTold.{RunTold}
+use Rattle.runs.specs.declared.told.WalkTold.{WalkTold}
 use Rattle.engine.specs.declared.answers.Verdict.{Verdict}
+use Rattle.engine.specs.declared.answers.EventTold.{EventTold}
 use Rattle.engine.specs.declared.answers.DegreeTold.{DegreeTold}
 use Rattle.engine.specs.declared.answers.OwedTold.{OwedTold}
 use Rattle.engine.specs.declared.answers.StepTold.{StepTold}
-use Rattle.engine.specs.Said.{says, saysRun, saysDegree, setSays, saysOwed, saysStep}
+use Rattle.engine.specs.Said.{says, noPlace, saysEvent, saysRun, saysWalk, saysDegree, setSays, saysOwed, saysStep}
 use Rattle.engine.specs.Steps.{StepGiven}
 use Rattle.engine.specs.Demands.{EventDone, LogRun, DegreeGiven, OwedGiven, EventBack, LogBack, InitialGiven}
 use Rattle.engine.specs.Faults.{StateUnfit, LogUnfit}
@@ -53,8 +55,14 @@ OfLogAlone log = Promise (λ why. (why ≡ fault.LogFrame) × ¬ IsLog log) (IsL
 abbrev pub TellsFault : Verdict → Fault → Type 0
 TellsFault r why = r ≡ says (numberOfFault why) (indexOfFault why)
 
-abbrev pub TellsRunFault : Told → Fault → Type 0
-TellsRunFault r why = r ≡ saysRun (numberOfFault why) (indexOfFault why) 0 0
+abbrev pub TellsEventFault : EventTold → Fault → Type 0
+TellsEventFault r why = r ≡ saysEvent (numberOfFault why) (indexOfFault why) noPlace
+
+abbrev pub TellsRunFault : RunTold → Fault → Type 0
+TellsRunFault r why = r ≡ saysRun (numberOfFault why) (indexOfFault why) 0 0 noPlace
+
+abbrev pub TellsWalkFault : WalkTold → Fault → Type 0
+TellsWalkFault r why = r ≡ saysWalk (numberOfFault why) (indexOfFault why) 0 0
 
 -- THE CALLS
 
@@ -67,8 +75,8 @@ CheckStatePromise net b r = OfState net b (TellsFault r) (r ≡ says 0 0)
 abbrev pub InitialPromise : List ℕ → List ℕ → Verdict → List ℕ → Type 0
 InitialPromise net b r b′ = OfNet net (λ why. TellsFault r why × (b′ ≡ b)) (InitialGiven net b r b′)
 
-abbrev pub EventPromise : List ℕ → List ℕ → ℕ → ℕ → Verdict → List ℕ → Type 0
-EventPromise net b first second r b′ = OfState net b (λ why. TellsFault r why × (b′ ≡ b)) (EventDone net b first second r b′)
+abbrev pub EventPromise : List ℕ → List ℕ → ℕ → ℕ → EventTold → List ℕ → Type 0
+EventPromise net b first second r b′ = OfState net b (λ why. TellsEventFault r why × (b′ ≡ b)) (EventDone net b first second r b′)
 
 abbrev pub BackPromise : List ℕ → List ℕ → ℕ → ℕ → Verdict → List ℕ → Type 0
 BackPromise net b first second r b′ = OfState net b (λ why. TellsFault r why × (b′ ≡ b)) (EventBack net b first second r b′)
@@ -80,11 +88,11 @@ abbrev pub OwedPromise : List ℕ → List ℕ → OwedTold → Type 0
 OwedPromise net b r =
     OfState net b (λ why. r ≡ saysOwed (numberOfFault why) (indexOfFault why) (setSays 0 0 0) (setSays 0 0 0) 0) (OwedGiven net b r)
 
-abbrev pub RunPromise : List ℕ → List ℕ → List ℕ → Told → List ℕ → Type 0
+abbrev pub RunPromise : List ℕ → List ℕ → List ℕ → RunTold → List ℕ → Type 0
 RunPromise net b log r b′ = OfLog net b log (λ why. TellsRunFault r why × (b′ ≡ b)) (LogRun net b log r b′)
 
-abbrev pub WalkPromise : List ℕ → List ℕ → List ℕ → ℕ → Told → List ℕ → Type 0
-WalkPromise net b log n r b′ = OfLog net b log (λ why. TellsRunFault r why × (b′ ≡ b)) (LogBack net b log n r b′)
+abbrev pub WalkPromise : List ℕ → List ℕ → List ℕ → ℕ → WalkTold → List ℕ → Type 0
+WalkPromise net b log n r b′ = OfLog net b log (λ why. TellsWalkFault r why × (b′ ≡ b)) (LogBack net b log n r b′)
 
 abbrev pub StepPromise : List ℕ → ℕ → StepTold → Type 0
 StepPromise log k r = OfLogAlone log (λ why. r ≡ saysStep (numberOfFault why) 0 0 0) (StepGiven log k r)

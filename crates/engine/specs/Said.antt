@@ -2,9 +2,12 @@
 -- contracts say what is computed, are not used there.
 -- Assumes nothing.
 use Prim.Native.Nat.{ℕ}
+use Rattle.model.specs.declared.answer.Short.{Short}
 use Rattle.owed.specs.declared.report.OwedSet.{OwedSet}
-use Rattle.runs.specs.declared.told.Told.{Told}
+use Rattle.runs.specs.declared.told.RunTold.{RunTold}
+use Rattle.runs.specs.declared.told.WalkTold.{WalkTold}
 use Rattle.engine.specs.declared.answers.Verdict.{Verdict}
+use Rattle.engine.specs.declared.answers.EventTold.{EventTold}
 use Rattle.engine.specs.declared.answers.DegreeTold.{DegreeTold}
 use Rattle.engine.specs.declared.answers.OwedTold.{OwedTold}
 use Rattle.engine.specs.declared.answers.StepTold.{StepTold}
@@ -12,8 +15,21 @@ use Rattle.engine.specs.declared.answers.StepTold.{StepTold}
 abbrev pub says : ℕ → ℕ → Verdict
 says number index = record { number = number; index = index }
 
-abbrev pub saysRun : ℕ → ℕ → ℕ → ℕ → Told
-saysRun number index done ticks = record { number = number; index = index; done = done; ticks = ticks }
+-- a place and its shortage; and 0, 0 for no place
+abbrev pub shortAt : ℕ → ℕ → Short
+shortAt place lacks = record { place = place; lacks = lacks }
+
+abbrev pub noPlace : Short
+noPlace = shortAt 0 0
+
+abbrev pub saysEvent : ℕ → ℕ → Short → EventTold
+saysEvent number index short = record { number = number; index = index; short = short }
+
+abbrev pub saysRun : ℕ → ℕ → ℕ → ℕ → Short → RunTold
+saysRun number index done ticks short = record { number = number; index = index; done = done; ticks = ticks; short = short }
+
+abbrev pub saysWalk : ℕ → ℕ → ℕ → ℕ → WalkTold
+saysWalk number index done ticks = record { number = number; index = index; done = done; ticks = ticks }
 
 abbrev pub saysDegree : ℕ → ℕ → ℕ → DegreeTold
 saysDegree number index degree = record { number = number; index = index; degree = degree }

@@ -1,16 +1,25 @@
-// What the calls tell beside a run's four numbers (runs::told). On a refusal all fields but number and index are 0.
+// What the calls tell beside a run and a walk (runs::told). On a refusal every field but number and index is 0,
+// except the place and the shortage that 13 tells.
 use forms::fault::Checked;
 use forms::fault::Fault;
 use model::answer::Answer;
+use model::answer::Short;
 use owed::report::Owed;
 use owed::report::OwedSet;
 ghost use mathlib.Core.Path.{_≡_};
-ghost use Rattle.engine.specs.Answers.{verdictOf, unfit, answered, noDegree, owedOf, noReport, tellsStep};
+ghost use Rattle.engine.specs.Answers.{verdictOf, unfit, answered, eventUnfit, eventAnswered, noDegree, owedOf, noReport, tellsStep};
 
 // Document 01's number, and the transition for 4, 5, 6 and 9.
 pub struct Verdict {
     pub number: u8,
     pub index: usize,
+}
+
+// And the place that is short, which 13 alone tells.
+pub struct EventTold {
+    pub number: u8,
+    pub index: usize,
+    pub short: Short,
 }
 
 // And how many times a transition is enabled.
@@ -58,13 +67,38 @@ impl Verdict {
         }
     }
 
-    // Of a single event: its index is always 0.
+    // Of a single event taken back: its index is always 0.
     pub fn answered(answer: Answer) -> Verdict
         ensures { λ r. ⌜ r ≡ answered answer ⌝ }
     {
         Verdict {
             number: answer.number(),
             index: 0,
+        }
+    }
+}
+
+impl EventTold {
+    pub fn unfit(fault: Fault) -> EventTold
+        ensures { λ r. ⌜ r ≡ eventUnfit fault ⌝ }
+    {
+        EventTold {
+            number: fault.number(),
+            index: fault.index(),
+            short: Short::nothing(),
+        }
+    }
+
+    // Of a single event: its index is always 0.
+    pub fn answered(answer: Answer) -> EventTold
+        ensures { λ r. ⌜ r ≡ eventAnswered answer ⌝ }
+    {
+        let number = answer.number();
+        let short = answer.short();
+        EventTold {
+            number: number,
+            index: 0,
+            short: short,
         }
     }
 }

@@ -2,6 +2,7 @@
 // order, and the first fault is told. A call that is refused before its first event writes nothing. The first clauses of a contract say what
 // is told and left, as a function of the bytes; the last says what that comes to, in the words of the demands (specs/Promised.antt).
 use crate::answers::DegreeTold;
+use crate::answers::EventTold;
 use crate::answers::OwedTold;
 use crate::answers::StepTold;
 use crate::answers::Verdict;
@@ -19,7 +20,8 @@ use moves::event;
 use owed::degree;
 use owed::report;
 use runs::run;
-use runs::told::Told;
+use runs::told::RunTold;
+use runs::told::WalkTold;
 use runs::walk;
 ghost use mathlib.Core.Path.{_≡_};
 ghost use Rattle.engine.specs.Calls.{netTold, stateTold, initialTold, initialLeft, eventTold, eventLeft, backTold, backLeft};
@@ -66,14 +68,14 @@ pub fn initial(net: &[u8], state: &mut [u8]) -> Verdict
 }
 
 // Does one event, given by its two bytes: 1 to 6, 8, 9, 11 to 20.
-pub fn event(net: &[u8], state: &mut [u8], first: u8, second: u8) -> Verdict
+pub fn event(net: &[u8], state: &mut [u8], first: u8, second: u8) -> EventTold
     ensures { λ r. ⌜ r ≡ eventTold (now (net .entry)) (now (state .entry)) first second ⌝ }
     ensures { λ _. ⌜ now (state .exit) ≡ eventLeft (now (net .entry)) (now (state .entry)) first second ⌝ }
     ensures { λ r. ⌜ EventPromise (now (net .entry)) (now (state .entry)) first second r (now (state .exit)) ⌝ }
 {
     match examine::examine_state(net, state) {
-        Examined::Fit(shape) => Verdict::answered(event::apply(net, shape, state, first, second)),
-        Examined::Unfit(fault) => Verdict::unfit(fault),
+        Examined::Fit(shape) => EventTold::answered(event::apply(net, shape, state, first, second)),
+        Examined::Unfit(fault) => EventTold::unfit(fault),
     }
 }
 
@@ -125,26 +127,26 @@ pub fn owed(net: &[u8], state: &[u8]) -> OwedTold
 }
 
 // Runs a log: 1 to 6, 8 to 20. The events follow the fifth byte of the log.
-pub fn run(net: &[u8], state: &mut [u8], log: &[u8]) -> Told
+pub fn run(net: &[u8], state: &mut [u8], log: &[u8]) -> RunTold
     ensures { λ r. ⌜ r ≡ runTold (now (net .entry)) (now (state .entry)) (now (log .entry)) ⌝ }
     ensures { λ _. ⌜ now (state .exit) ≡ runLeft (now (net .entry)) (now (state .entry)) (now (log .entry)) ⌝ }
     ensures { λ r. ⌜ RunPromise (now (net .entry)) (now (state .entry)) (now (log .entry)) r (now (state .exit)) ⌝ }
 {
     match examine::examine_log(net, state, log) {
         Examined::Fit(shape) => run::run(net, shape, state, &log[places::EVENTS_AT..]),
-        Examined::Unfit(fault) => Told::unfit(fault),
+        Examined::Unfit(fault) => RunTold::unfit(fault),
     }
 }
 
 // Walks the last n events of a log back: 1 to 6, 8 to 12, 21, 22.
-pub fn walk(net: &[u8], state: &mut [u8], log: &[u8], n: usize) -> Told
+pub fn walk(net: &[u8], state: &mut [u8], log: &[u8], n: usize) -> WalkTold
     ensures { λ r. ⌜ r ≡ walkTold (now (net .entry)) (now (state .entry)) (now (log .entry)) n ⌝ }
     ensures { λ _. ⌜ now (state .exit) ≡ walkLeft (now (net .entry)) (now (state .entry)) (now (log .entry)) n ⌝ }
     ensures { λ r. ⌜ WalkPromise (now (net .entry)) (now (state .entry)) (now (log .entry)) n r (now (state .exit)) ⌝ }
 {
     match examine::examine_log(net, state, log) {
         Examined::Fit(shape) => walk::walk(net, shape, state, &log[places::EVENTS_AT..], n),
-        Examined::Unfit(fault) => Told::unfit(fault),
+        Examined::Unfit(fault) => WalkTold::unfit(fault),
     }
 }
 

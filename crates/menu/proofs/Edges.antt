@@ -3,7 +3,7 @@
 use mathlib.Core.Path.{refl}
 use Rattle.model.specs.Tab.{tab, all, largest, least, howMany, lowest, one}
 use Rattle.model.specs.Net.{width, tokens, count, build}
-use Rattle.model.specs.Rules.{enabled?, no-start-owed?, no-end-owed?, nothing-running?, timely?, has-room?, covers?, none-fresh?}
+use Rattle.model.specs.Rules.{lackingPlace, enabled?, short, no-start-owed?, no-end-owed?, nothing-running?, timely?, has-room?, covers?, none-fresh?}
 use Rattle.model.specs.Rules.{older, started, ended, ticked, unstarted, unended, unticked, apply, back, times, degree}
 use Rattle.model.specs.Run.{inTurn, run, walkBack, walk}
 use Rattle.model.specs.Owed.{owes-start?, owes-end?, standingOf, owed}
@@ -19,19 +19,21 @@ use Rattle.forms.specs.Written.{written}
 use Rattle.owed.specs.Bits.{wordOf}
 use Rattle.logs.specs.Steps.{startFrom, endFrom}
 use Rattle.engine.specs.Examined.{examineNet, examineState, examineLog}
-use Rattle.engine.specs.Calls.{netTold, stateTold, degreeTold, owedTold, runTold, runLeft, walkTold, stepTold}
+use Rattle.engine.specs.Calls.{netTold, stateTold, eventTold, degreeTold, owedTold, runTold, runLeft, walkTold, stepTold}
 use Rattle.menu.specs.Edges.{Edges}
 
 pub edges : Edges
-unfolding netTold stateTold degreeTold owedTold runTold runLeft walkTold stepTold examineNet examineState examineLog
+unfolding netTold stateTold eventTold degreeTold owedTold runTold runLeft walkTold stepTold examineNet examineState examineLog
     checkNet net-head? checkRow some-weight? checkState has-head? none-past? checkLog is-log? begins? checksInTurn
     netOf stateOf eventsIn word word32 blank? setWord putWords putRows rowAt countAt stateLength written startFrom endFrom wordOf
     run walk walkBack inTurn owed owes-start? owes-end? standingOf degree times apply back started ended ticked unstarted unended unticked older
-    enabled? no-start-owed? no-end-owed? nothing-running? timely? has-room? covers? none-fresh?
+    lackingPlace enabled? short no-start-owed? no-end-owed? nothing-running? timely? has-room? covers? none-fresh?
     width tokens count build tab all largest least howMany lowest one
 edges = record {
   net = (refl, refl);
   state = refl;
+  short-event = refl;
+  no-event = refl;
   degree = refl;
   no-degree = refl;
   start-owed = refl;
@@ -39,7 +41,10 @@ edges = record {
   at-rest = refl;
   no-report = refl;
   run = (refl, refl);
+  short-run = refl;
+  no-run = refl;
   walk = refl;
+  whole-walk = refl;
   step = refl;
   no-step = refl;
 }

@@ -7,8 +7,8 @@ use Prim.Native.Nat.{ℕ}
 use lib.ListN.{set}
 use Rattle.forms.specs.Cases.{rowNet, rowState, rowLog}
 use Rattle.owed.specs.Edges.{spent}
-use Rattle.engine.specs.Calls.{netTold, stateTold, degreeTold, owedTold, runTold, runLeft, walkTold, stepTold}
-use Rattle.menu.specs.Fields.{verdictFields, degreeFields, owedFields, toldFields, stepFields}
+use Rattle.engine.specs.Calls.{netTold, stateTold, eventTold, degreeTold, owedTold, runTold, runLeft, walkTold, stepTold}
+use Rattle.menu.specs.Fields.{verdictFields, eventFields, degreeFields, owedFields, runFields, walkFields, stepFields}
 
 -- what K1 leaves: a token in place 2, and none elsewhere
 abbrev filled : List ℕ
@@ -29,10 +29,16 @@ overdue = set spent 25 1
 abbrev rich : List ℕ
 rich = set (set rowState 8 1) 9 2
 
+-- transition 1 takes 9 tokens from place 1, so that K1's log stops at its fourth event
+abbrev dear : List ℕ
+dear = set rowNet 24 9
+
 pub record Edges : Type 0 where
   -- accepted; and transition 1 with an lfd above 63
   pub net : (verdictFields (netTold rowNet) ≡ 0 ∷ 0 ∷ []) × (verdictFields (netTold (set rowNet 22 64)) ≡ 4 ∷ 1 ∷ [])
   pub state : verdictFields (stateTold rowNet overdue) ≡ 9 ∷ 1 ∷ []
+  pub short-event : eventFields (eventTold dear rowState 0x02 0x00) ≡ 13 ∷ 0 ∷ 1 ∷ 9 ∷ []
+  pub no-event : eventFields (eventTold rowNet overdue 0x02 0x00) ≡ 9 ∷ 1 ∷ 0 ∷ 0 ∷ []
   pub degree : degreeFields (degreeTold rowNet rich 0) ≡ 0 ∷ 0 ∷ 258 ∷ []
   pub no-degree : degreeFields (degreeTold rowNet overdue 0) ≡ 9 ∷ 1 ∷ 0 ∷ []
   -- both words, how many are set in both, the lowest of both, the standing
@@ -41,8 +47,11 @@ pub record Edges : Type 0 where
   pub at-rest : owedFields (owedTold rowNet filled) ≡ 0 ∷ 0 ∷ 0 ∷ 0 ∷ 0 ∷ 0 ∷ 64 ∷ 64 ∷ 4 ∷ []
   pub no-report : owedFields (owedTold rowNet overdue) ≡ 9 ∷ 1 ∷ 0 ∷ 0 ∷ 0 ∷ 0 ∷ 0 ∷ 0 ∷ 0 ∷ []
   -- K1: five events, one tick; and its last two events walked back, so that three stand done
-  pub run : (toldFields (runTold rowNet rowState rowLog) ≡ 0 ∷ 5 ∷ 5 ∷ 1 ∷ []) × (runLeft rowNet rowState rowLog ≡ filled)
-  pub walk : toldFields (walkTold rowNet filled rowLog 2) ≡ 0 ∷ 3 ∷ 2 ∷ 0 ∷ []
+  pub run : (runFields (runTold rowNet rowState rowLog) ≡ 0 ∷ 5 ∷ 5 ∷ 1 ∷ 0 ∷ 0 ∷ []) × (runLeft rowNet rowState rowLog ≡ filled)
+  pub short-run : runFields (runTold dear rowState rowLog) ≡ 13 ∷ 3 ∷ 3 ∷ 1 ∷ 1 ∷ 8 ∷ []
+  pub no-run : runFields (runTold rowNet overdue rowLog) ≡ 9 ∷ 1 ∷ 0 ∷ 0 ∷ 0 ∷ 0 ∷ []
+  pub walk : walkFields (walkTold rowNet filled rowLog 2) ≡ 0 ∷ 3 ∷ 2 ∷ 0 ∷ []
+  pub whole-walk : walkFields (walkTold rowNet filled rowLog 5) ≡ 0 ∷ 0 ∷ 5 ∷ 1 ∷ []
   -- step 1 is six bytes behind nine; there is no step 2
   pub step : stepFields (stepTold rowLog 1) ≡ 0 ∷ 0 ∷ 9 ∷ 6 ∷ []
   pub no-step : stepFields (stepTold rowLog 2) ≡ 23 ∷ 0 ∷ 0 ∷ 0 ∷ []

@@ -3,8 +3,10 @@
 use mathlib.Core.Path.{_≡_}
 use mathlib.Core.List.{List, [], _∷_}
 use Prim.Native.Nat.{ℕ}
-use Rattle.runs.specs.declared.told.Told.{Told}
+use Rattle.runs.specs.declared.told.RunTold.{RunTold}
+use Rattle.runs.specs.declared.told.WalkTold.{WalkTold}
 use Rattle.engine.specs.declared.answers.Verdict.{Verdict}
+use Rattle.engine.specs.declared.answers.EventTold.{EventTold}
 use Rattle.engine.specs.declared.answers.DegreeTold.{DegreeTold}
 use Rattle.engine.specs.declared.answers.OwedTold.{OwedTold}
 use Rattle.engine.specs.declared.answers.StepTold.{StepTold}
@@ -15,6 +17,9 @@ OfAnswer {A} fields answer P = (r : A) × (answer ≡ fields r) × P r
 
 abbrev pub verdictFields : Verdict → List ℕ
 verdictFields told = told .number ∷ told .index ∷ []
+
+abbrev pub eventFields : EventTold → List ℕ
+eventFields told = told .number ∷ told .index ∷ told .short .place ∷ told .short .lacks ∷ []
 
 abbrev pub degreeFields : DegreeTold → List ℕ
 degreeFields told = told .number ∷ told .index ∷ told .degree ∷ []
@@ -33,9 +38,12 @@ owedFields told =
     ∷ told .standing
     ∷ []
 
--- of a run and of a walk back
-abbrev pub toldFields : Told → List ℕ
-toldFields told = told .number ∷ told .index ∷ told .done ∷ told .ticks ∷ []
+abbrev pub runFields : RunTold → List ℕ
+runFields told = told .number ∷ told .index ∷ told .done ∷ told .ticks ∷ told .short .place ∷ told .short .lacks ∷ []
+
+-- of a walk back
+abbrev pub walkFields : WalkTold → List ℕ
+walkFields told = told .number ∷ told .index ∷ told .done ∷ told .ticks ∷ []
 
 abbrev pub stepFields : StepTold → List ℕ
 stepFields told = told .number ∷ told .index ∷ told .start ∷ told .length ∷ []

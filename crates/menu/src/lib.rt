@@ -8,7 +8,7 @@ ghost use Rattle.engine.specs.Calls.{netTold, stateTold, initialTold, initialLe
 ghost use Rattle.engine.specs.Calls.{degreeTold, owedTold, runTold, runLeft, walkTold, walkLeft, stepTold};
 ghost use Rattle.engine.specs.Promised.{CheckNetPromise, CheckStatePromise, InitialPromise, EventPromise, BackPromise};
 ghost use Rattle.engine.specs.Promised.{DegreePromise, OwedPromise, RunPromise, WalkPromise, StepPromise};
-ghost use Rattle.menu.specs.Fields.{OfAnswer, verdictFields, degreeFields, owedFields, toldFields, stepFields};
+ghost use Rattle.menu.specs.Fields.{OfAnswer, verdictFields, eventFields, degreeFields, owedFields, runFields, walkFields, stepFields};
 
 // Checks a net: 1 to 6.
 #[no_mangle]
@@ -48,14 +48,20 @@ pub extern "C" fn menu_event(
     state: &mut [u8],
     first: u8,
     second: u8,
-    answer: &mut [u64; 2],
+    answer: &mut [u64; 4],
 )
-    ensures { λ _. ⌜ now (answer .exit) ≡ verdictFields (eventTold (now (net .entry)) (now (state .entry)) first second) ⌝ }
+    ensures { λ _. ⌜ now (answer .exit) ≡ eventFields (eventTold (now (net .entry)) (now (state .entry)) first second) ⌝ }
     ensures { λ _. ⌜ now (state .exit) ≡ eventLeft (now (net .entry)) (now (state .entry)) first second ⌝ }
-    ensures { λ _. ⌜ OfAnswer verdictFields (now (answer .exit)) (λ r. EventPromise (now (net .entry)) (now (state .entry)) first second r (now (state .exit))) ⌝ }
+    ensures { λ _. ⌜ OfAnswer eventFields (now (answer .exit)) (λ r. EventPromise (now (net .entry)) (now (state .entry)) first second r (now (state .exit))) ⌝ }
 {
     let told = calls::event(net, state, first, second);
-    *answer = [told.number as u64, told.index as u64];
+    let short = told.short;
+    *answer = [
+        told.number as u64,
+        told.index as u64,
+        short.place as u64,
+        short.lacks as u64,
+    ];
 }
 
 // Takes one event back: 1 to 6, 8, 9, 11, 12, 21.
@@ -109,17 +115,20 @@ pub extern "C" fn menu_owed(net: &[u8], state: &[u8], answer: &mut [u64; 9])
 
 // Runs a log: 1 to 6, 8 to 20.
 #[no_mangle]
-pub extern "C" fn menu_run(net: &[u8], state: &mut [u8], log: &[u8], answer: &mut [u64; 4])
-    ensures { λ _. ⌜ now (answer .exit) ≡ toldFields (runTold (now (net .entry)) (now (state .entry)) (now (log .entry))) ⌝ }
+pub extern "C" fn menu_run(net: &[u8], state: &mut [u8], log: &[u8], answer: &mut [u64; 6])
+    ensures { λ _. ⌜ now (answer .exit) ≡ runFields (runTold (now (net .entry)) (now (state .entry)) (now (log .entry))) ⌝ }
     ensures { λ _. ⌜ now (state .exit) ≡ runLeft (now (net .entry)) (now (state .entry)) (now (log .entry)) ⌝ }
-    ensures { λ _. ⌜ OfAnswer toldFields (now (answer .exit)) (λ r. RunPromise (now (net .entry)) (now (state .entry)) (now (log .entry)) r (now (state .exit))) ⌝ }
+    ensures { λ _. ⌜ OfAnswer runFields (now (answer .exit)) (λ r. RunPromise (now (net .entry)) (now (state .entry)) (now (log .entry)) r (now (state .exit))) ⌝ }
 {
     let told = calls::run(net, state, log);
+    let short = told.short;
     *answer = [
         told.number as u64,
         told.index as u64,
         told.done as u64,
         told.ticks as u64,
+        short.place as u64,
+        short.lacks as u64,
     ];
 }
 
@@ -132,9 +141,9 @@ pub extern "C" fn menu_walk(
     n: usize,
     answer: &mut [u64; 4],
 )
-    ensures { λ _. ⌜ now (answer .exit) ≡ toldFields (walkTold (now (net .entry)) (now (state .entry)) (now (log .entry)) n) ⌝ }
+    ensures { λ _. ⌜ now (answer .exit) ≡ walkFields (walkTold (now (net .entry)) (now (state .entry)) (now (log .entry)) n) ⌝ }
     ensures { λ _. ⌜ now (state .exit) ≡ walkLeft (now (net .entry)) (now (state .entry)) (now (log .entry)) n ⌝ }
-    ensures { λ _. ⌜ OfAnswer toldFields (now (answer .exit)) (λ r. WalkPromise (now (net .entry)) (now (state .entry)) (now (log .entry)) n r (now (state .exit))) ⌝ }
+    ensures { λ _. ⌜ OfAnswer walkFields (now (answer .exit)) (λ r. WalkPromise (now (net .entry)) (now (state .entry)) (now (log .entry)) n r (now (state .exit))) ⌝ }
 {
     let told = calls::walk(net, state, log, n);
     *answer = [

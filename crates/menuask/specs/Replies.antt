@@ -7,7 +7,7 @@ use lib.Dec.{eqb}
 use Rattle.text.specs.Lines.{bufferMost, lineMost, Line}
 use Rattle.engine.specs.Calls.{netTold, stateTold, initialTold, initialLeft, eventTold, eventLeft, backTold, backLeft}
 use Rattle.engine.specs.Calls.{degreeTold, owedTold, runTold, runLeft, walkTold, walkLeft, stepTold}
-use Rattle.menu.specs.Fields.{verdictFields, degreeFields, owedFields, toldFields, stepFields}
+use Rattle.menu.specs.Fields.{verdictFields, eventFields, degreeFields, owedFields, runFields, walkFields, stepFields}
 
 -- the parts of a line
 pub record Reply : Type 0 where
@@ -68,7 +68,7 @@ checkStateReply net state = tells checkStateName (verdictFields (stateTold net s
 
 abbrev pub eventReply : List ℕ → List ℕ → ℕ → ℕ → Reply
 eventReply net state first second =
-    shows eventName (verdictFields (eventTold net state first second)) (eventLeft net state first second)
+    shows eventName (eventFields (eventTold net state first second)) (eventLeft net state first second)
 
 abbrev pub backReply : List ℕ → List ℕ → ℕ → ℕ → Reply
 backReply net state first second =
@@ -81,10 +81,10 @@ abbrev pub owedReply : List ℕ → List ℕ → Reply
 owedReply net state = tells owedName (owedFields (owedTold net state))
 
 abbrev pub runReply : List ℕ → List ℕ → List ℕ → Reply
-runReply net state log = shows runName (toldFields (runTold net state log)) (runLeft net state log)
+runReply net state log = shows runName (runFields (runTold net state log)) (runLeft net state log)
 
 abbrev pub walkReply : List ℕ → List ℕ → List ℕ → ℕ → Reply
-walkReply net state log n = shows walkName (toldFields (walkTold net state log n)) (walkLeft net state log n)
+walkReply net state log n = shows walkName (walkFields (walkTold net state log n)) (walkLeft net state log n)
 
 abbrev pub stepReply : List ℕ → ℕ → Reply
 stepReply log k = tells stepName (stepFields (stepTold log k))

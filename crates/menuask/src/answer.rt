@@ -47,7 +47,7 @@ fn event(out: &mut [u8], net: &[u8], state: &mut [u8], first: u8, second: u8) ->
     ensures { λ r. ⌜ Replied (eventReply (now (net .entry)) (now (state .entry)) first second) (now (out .entry)) (now (out .exit)) r ⌝ }
     ensures { λ _. ⌜ now (state .exit) ≡ eventLeft (now (net .entry)) (now (state .entry)) first second ⌝ }
 {
-    let mut told = [0u64; 2];
+    let mut told = [0u64; 4];
     menu::menu_event(net, state, first, second, &mut told);
     line::put_line_with(out, 0, b"event", &told, state)
 }
@@ -89,7 +89,7 @@ fn run(out: &mut [u8], net: &[u8], state: &mut [u8], log: &[u8]) -> usize
     ensures { λ r. ⌜ Replied (runReply (now (net .entry)) (now (state .entry)) (now (log .entry))) (now (out .entry)) (now (out .exit)) r ⌝ }
     ensures { λ _. ⌜ now (state .exit) ≡ runLeft (now (net .entry)) (now (state .entry)) (now (log .entry)) ⌝ }
 {
-    let mut told = [0u64; 4];
+    let mut told = [0u64; 6];
     menu::menu_run(net, state, log, &mut told);
     line::put_line_with(out, 0, b"run", &told, state)
 }

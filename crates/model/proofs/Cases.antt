@@ -10,11 +10,11 @@ use lib.ListN.{length, getD}
 use Rattle.model.specs.Answer.{numberOfStanding}
 use Rattle.model.specs.Tab.{tab, all, largest, least, howMany, lowest, one}
 use Rattle.model.specs.Net.{width, State, tokens, count, build, initialState}
-use Rattle.model.specs.Rules.{enabled?, no-start-owed?, no-end-owed?, nothing-running?, timely?, has-room?, covers?, none-fresh?}
+use Rattle.model.specs.Rules.{lackingPlace, enabled?, short, no-start-owed?, no-end-owed?, nothing-running?, timely?, has-room?, covers?, none-fresh?}
 use Rattle.model.specs.Rules.{older, started, ended, ticked, unstarted, unended, unticked, apply, back, times, degree}
-use Rattle.model.specs.Run.{Told, Single, single, inTurn, run, walkBack, walk}
+use Rattle.model.specs.Run.{RunTold, WalkTold, EventTold, BackTold, toldEvent, toldBack, inTurn, run, walkBack, walk}
 use Rattle.model.specs.Owed.{owes-start?, owes-end?, standingOf, owed}
-use Rattle.model.specs.Cases.{childrensRow, heavy, slowMiddle, Case, runs, walks, does, undoes, has-degree, has-width, owes, digest, Holds, AllHold, cases, furtherCases}
+use Rattle.model.specs.Cases.{childrensRow, heavy, slowMiddle, threefold, Case, runs, walks, does, undoes, has-degree, has-width, owes, digest, Holds, AllHold, cases, furtherCases}
 
 -- TESTS OF EQUALITY
 
@@ -49,13 +49,13 @@ sameState-sound S S′ t =
     let q = sameList-sound (sameList eqb) (sameList-sound eqb eqb→eq) (S .clock) (S′ .clock) h in
     λ i. record { marking = p i; clock = q i }
 
-numbers : Told → List ℕ
+numbers : WalkTold → List ℕ
 numbers r = r .number ∷ r .index ∷ r .done ∷ r .ticks ∷ []
 
-sameTold : Told → Told → Bool
+sameTold : WalkTold → WalkTold → Bool
 sameTold r r′ = sameList eqb (numbers r) (numbers r′) && sameState (r .state) (r′ .state)
 
-sameTold-sound : (r r′ : Told) → T (sameTold r r′) → r ≡ r′
+sameTold-sound : (r r′ : WalkTold) → T (sameTold r r′) → r ≡ r′
 unfolding sameTold numbers
 sameTold-sound r r′ t =
     let (n, s) = both (sameList eqb (numbers r) (numbers r′)) (sameState (r .state) (r′ .state)) t in
@@ -69,18 +69,59 @@ sameTold-sound r r′ t =
       state = q i;
     }
 
-sameSingle : Single → Single → Bool
-sameSingle r r′ = (eqb (r .number) (r′ .number) && eqb (r .index) (r′ .index)) && sameState (r .state) (r′ .state)
+runNumbers : RunTold → List ℕ
+runNumbers r = r .number ∷ r .index ∷ r .done ∷ r .ticks ∷ r .short .place ∷ r .short .lacks ∷ []
 
-sameSingle-sound : (r r′ : Single) → T (sameSingle r r′) → r ≡ r′
-unfolding sameSingle
-sameSingle-sound r r′ t =
-    let (n, s) = both (eqb (r .number) (r′ .number) && eqb (r .index) (r′ .index)) (sameState (r .state) (r′ .state)) t in
-    let (m, x) = both (eqb (r .number) (r′ .number)) (eqb (r .index) (r′ .index)) n in
-    let p = eqb→eq (r .number) (r′ .number) m in
-    let q = eqb→eq (r .index) (r′ .index) x in
-    let o = sameState-sound (r .state) (r′ .state) s in
-    λ i. record { number = p i; index = q i; state = o i }
+sameRun : RunTold → RunTold → Bool
+sameRun r r′ = sameList eqb (runNumbers r) (runNumbers r′) && sameState (r .state) (r′ .state)
+
+sameRun-sound : (r r′ : RunTold) → T (sameRun r r′) → r ≡ r′
+unfolding sameRun runNumbers
+sameRun-sound r r′ t =
+    let (n, s) = both (sameList eqb (runNumbers r) (runNumbers r′)) (sameState (r .state) (r′ .state)) t in
+    let p = sameList-sound eqb eqb→eq (runNumbers r) (runNumbers r′) n in
+    let q = sameState-sound (r .state) (r′ .state) s in
+    λ i. record {
+      number = getD (p i) 0 0;
+      index = getD (p i) 1 0;
+      done = getD (p i) 2 0;
+      ticks = getD (p i) 3 0;
+      short = record { place = getD (p i) 4 0; lacks = getD (p i) 5 0 };
+      state = q i;
+    }
+
+eventNumbers : EventTold → List ℕ
+eventNumbers r = r .number ∷ r .index ∷ r .short .place ∷ r .short .lacks ∷ []
+
+sameEvent : EventTold → EventTold → Bool
+sameEvent r r′ = sameList eqb (eventNumbers r) (eventNumbers r′) && sameState (r .state) (r′ .state)
+
+sameEvent-sound : (r r′ : EventTold) → T (sameEvent r r′) → r ≡ r′
+unfolding sameEvent eventNumbers
+sameEvent-sound r r′ t =
+    let (n, s) = both (sameList eqb (eventNumbers r) (eventNumbers r′)) (sameState (r .state) (r′ .state)) t in
+    let p = sameList-sound eqb eqb→eq (eventNumbers r) (eventNumbers r′) n in
+    let q = sameState-sound (r .state) (r′ .state) s in
+    λ i. record {
+      number = getD (p i) 0 0;
+      index = getD (p i) 1 0;
+      short = record { place = getD (p i) 2 0; lacks = getD (p i) 3 0 };
+      state = q i;
+    }
+
+backNumbers : BackTold → List ℕ
+backNumbers r = r .number ∷ r .index ∷ []
+
+sameBack : BackTold → BackTold → Bool
+sameBack r r′ = sameList eqb (backNumbers r) (backNumbers r′) && sameState (r .state) (r′ .state)
+
+sameBack-sound : (r r′ : BackTold) → T (sameBack r r′) → r ≡ r′
+unfolding sameBack backNumbers
+sameBack-sound r r′ t =
+    let (n, s) = both (sameList eqb (backNumbers r) (backNumbers r′)) (sameState (r .state) (r′ .state)) t in
+    let p = sameList-sound eqb eqb→eq (backNumbers r) (backNumbers r′) n in
+    let q = sameState-sound (r .state) (r′ .state) s in
+    λ i. record { number = getD (p i) 0 0; index = getD (p i) 1 0; state = q i }
 
 -- THE TABLES
 
@@ -89,10 +130,10 @@ every f [] = true
 every f (x ∷ xs) = f x && every f xs
 
 holds? : Case → Bool
-holds? (runs N S es r s) = sameTold (run N S es) r && eqb (numberOfStanding (standingOf N (r .state))) s
+holds? (runs N S es r s) = sameRun (run N S es) r && eqb (numberOfStanding (standingOf N (r .state))) s
 holds? (walks N S′ es n r) = sameTold (walk N S′ es n) r
-holds? (does N S e r) = sameSingle (single S (apply N S e)) r
-holds? (undoes N S′ e r) = sameSingle (single S′ (back N S′ e)) r
+holds? (does N S e r) = sameEvent (toldEvent S (apply N S e)) r
+holds? (undoes N S′ e r) = sameBack (toldBack S′ (back N S′ e)) r
 holds? (has-degree N S t n) = eqb (degree N S t) n
 holds? (has-width N d) = eqb (width N) d
 holds? (owes N S r) = sameList eqb (digest (owed N S)) r
@@ -100,11 +141,11 @@ holds? (owes N S r) = sameList eqb (digest (owed N S)) r
 holds-sound : (c : Case) → T (holds? c) → Holds c
 unfolding holds?
 holds-sound (runs N S es r s) t =
-    let (a, b) = both (sameTold (run N S es) r) (eqb (numberOfStanding (standingOf N (r .state))) s) t in
-    (sameTold-sound _ _ a, eqb→eq _ _ b)
+    let (a, b) = both (sameRun (run N S es) r) (eqb (numberOfStanding (standingOf N (r .state))) s) t in
+    (sameRun-sound _ _ a, eqb→eq _ _ b)
 holds-sound (walks N S′ es n r) t = sameTold-sound _ _ t
-holds-sound (does N S e r) t = sameSingle-sound _ _ t
-holds-sound (undoes N S′ e r) t = sameSingle-sound _ _ t
+holds-sound (does N S e r) t = sameEvent-sound _ _ t
+holds-sound (undoes N S′ e r) t = sameBack-sound _ _ t
 holds-sound (has-degree N S t n) h = eqb→eq _ _ h
 holds-sound (has-width N d) h = eqb→eq _ _ h
 holds-sound (owes N S r) t = sameList-sound eqb eqb→eq _ _ t
@@ -116,9 +157,10 @@ every-sound [] t = tt
 every-sound (c ∷ cs) t = let (h, r) = both (holds? c) (every holds? cs) t in (holds-sound c h, every-sound cs r)
 
 all-hold : T (every holds? cases && every holds? furtherCases)
-unfolding every holds? sameTold sameSingle sameState sameList numbers cases furtherCases childrensRow heavy slowMiddle
+unfolding every holds? sameRun sameTold sameEvent sameBack sameState sameList runNumbers numbers eventNumbers backNumbers
+    cases furtherCases childrensRow heavy slowMiddle threefold
     run walk walkBack inTurn owed owes-start? owes-end? standingOf degree times apply back started ended ticked unstarted unended unticked older
-    enabled? no-start-owed? no-end-owed? nothing-running? timely? has-room? covers? none-fresh?
+    lackingPlace enabled? short no-start-owed? no-end-owed? nothing-running? timely? has-room? covers? none-fresh?
     width tokens count build initialState tab all largest least howMany lowest one
 all-hold = tt
 
@@ -127,6 +169,6 @@ pub cases-hold : (length cases ≡ 12) × AllHold cases
 unfolding cases
 cases-hold = (refl, every-sound cases (both (every holds? cases) (every holds? furtherCases) all-hold .0))
 
-pub further-hold : (length furtherCases ≡ 38) × AllHold furtherCases
+pub further-hold : (length furtherCases ≡ 41) × AllHold furtherCases
 unfolding furtherCases
 further-hold = (refl, every-sound furtherCases (both (every holds? cases) (every holds? furtherCases) all-hold .1))

@@ -8,7 +8,7 @@ use native.Mathlib.Omega.{arith}
 use Rattle.model.specs.Tab.{least}
 use Rattle.model.specs.Limits.{tokenLimit}
 use Rattle.model.specs.Net.{Net, Proper, State, Lawful, tokens}
-use Rattle.model.specs.Moves.{Enabled, Lacking, Degree}
+use Rattle.model.specs.Moves.{Enabled, TooFew, Degree}
 use Rattle.model.specs.Rules.{times, degree}
 use Rattle.model.proofs.Tab.{below-suc}
 use Rattle.model.proofs.Tests.{leb-tells, some-fails}
@@ -33,7 +33,7 @@ times-is n (suc w) m h = le-div-iff-mul-le (omega arith)
 
 module _ (N : Net) (S : State) (t : ℕ) where
   -- t is not enabled n times exactly where some place lacks tokens for it
-  pub lacks : (n : ℕ) → (¬ Enabled N S t n) ↔ Lacking N S t n
+  pub lacks : (n : ℕ) → (¬ Enabled N S t n) ↔ TooFew N S t n
   lacks n = (
     (λ fails. let (p, b, short) = some-fails (N .places) (λ p. leb-tells (n * N .takes t p) (tokens S p)) fails in
         (p, b, below (n * N .takes t p) (tokens S p) short)),

@@ -11,9 +11,10 @@ use Rattle.model.proofs.Shape.{width-is, width-once, initial-exact}
 use Rattle.model.proofs.Degree.{degree-exact}
 use Rattle.model.proofs.Forward.{apply-exact}
 use Rattle.model.proofs.Lawful.{initial-lawful}
+use Rattle.model.proofs.Lacking.{not-enabled, just-short}
 use Rattle.model.proofs.Back.{back-exact, apply-lawful, back-lawful, apply-injective}
-use Rattle.model.proofs.Refusals.{apply-refuses, back-refuses}
-use Rattle.model.proofs.Run.{leads-lawful, run-accepted, run-exact, run-ran, ran-only}
+use Rattle.model.proofs.Refusals.{apply-refuses, short-told, back-refuses}
+use Rattle.model.proofs.Run.{leads-lawful, run-accepted, run-exact, run-ran, ran-only, run-short}
 use Rattle.model.proofs.Walk.{walk-exact, walk-back, walk-walked, walked-only}
 use Rattle.model.proofs.Owed.{owed-reports, reports-once, owed-standing, free-to-tick}
 
@@ -24,9 +25,13 @@ demand-2 N = record {
   degree-is = degree-exact N;
   event-accepted = apply-exact N;
   event-refused = apply-refuses N;
+  not-enabled = not-enabled N;
+  short-told = short-told N;
+  short-just = just-short N;
   log-accepted = run-accepted N;
   log-leads = run-exact N;
   log-told = λ S es r. ((λ e. subst (Ran N S es) (sym e) (run-ran N S es)), ran-only N S es r);
+  log-short = run-short N;
   owed-told = λ S r. ((λ e. subst (Reports N S) (sym e) (owed-reports N S)), λ h. reports-once N S h (owed-reports N S));
   free-to-tick = λ S. Iff·trans (owed-standing N S standing.FreeToTick) (free-to-tick N S);
 }

@@ -17,6 +17,12 @@ use Rattle.model.proofs.answer.Refusal.number.Reads as refusal-number
 use Rattle.model.proofs.answer.Refusal.number.Kinds as refusal-number-kinds
 use Rattle.model.proofs.answer.Answer.number.Reads as answer-number
 use Rattle.model.proofs.answer.Answer.number.Kinds as answer-number-kinds
+use Rattle.model.proofs.answer.Short.nothing.Reads as short-nothing
+use Rattle.model.proofs.answer.Short.nothing.Kinds as short-nothing-kinds
+use Rattle.model.proofs.answer.Refusal.short.Reads as refusal-short
+use Rattle.model.proofs.answer.Refusal.short.Kinds as refusal-short-kinds
+use Rattle.model.proofs.answer.Answer.short.Reads as answer-short
+use Rattle.model.proofs.answer.Answer.short.Kinds as answer-short-kinds
 use Rattle.model.proofs.answer.Standing.number.Reads as standing-number
 use Rattle.model.proofs.answer.Standing.number.Kinds as standing-number-kinds
 use Rattle.model.proofs.net.Net.new.Reads as net-new
@@ -56,6 +62,15 @@ refusal-number-determined κs args x y s s′ p q = p ∙ sym q
 
 pub answer-number-determined : Determined 0 answer-number-kinds.ps answer-number-kinds.r answer-number.Learnt
 answer-number-determined κs args x y s s′ p q = p ∙ sym q
+
+pub short-nothing-determined : Determined 0 short-nothing-kinds.ps short-nothing-kinds.r short-nothing.Learnt
+short-nothing-determined κs args x y s s′ p q = p ∙ sym q
+
+pub refusal-short-determined : Determined 0 refusal-short-kinds.ps refusal-short-kinds.r refusal-short.Learnt
+refusal-short-determined κs args x y s s′ p q = p ∙ sym q
+
+pub answer-short-determined : Determined 0 answer-short-kinds.ps answer-short-kinds.r answer-short.Learnt
+answer-short-determined κs args x y s s′ p q = p ∙ sym q
 
 pub standing-number-determined : Determined 0 standing-number-kinds.ps standing-number-kinds.r standing-number.Learnt
 standing-number-determined κs args x y s s′ p q = p ∙ sym q

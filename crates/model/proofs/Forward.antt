@@ -11,7 +11,7 @@ use Rattle.model.specs.declared.answer.Refusal.the-variants as refusal
 use Rattle.model.specs.Limits.{Held}
 use Rattle.model.specs.Net.{Net, State, width, count}
 use Rattle.model.specs.Moves.{Enabled, NoStartOwed, NoEndOwed, NothingRunning, Timely, HasRoom, Starts, Ends, Ticks, Moves}
-use Rattle.model.specs.Rules.{done, apply, started, ended, ticked, older}
+use Rattle.model.specs.Rules.{done, short, apply, started, ended, ticked, older}
 use Rattle.model.proofs.Tab.{one-le}
 use Rattle.model.proofs.Tests.{leb-tells, ltb-tells, not-tells, held-tells, timely-tells, enabled-tells, no-start-owed-tells}
 use Rattle.model.proofs.Tests.{no-end-owed-tells, nothing-running-tells, has-room-tells, unless-done, done-is, never}
@@ -24,7 +24,7 @@ module _ (N : Net) (S S′ : State) where
   unfolding apply
   start-passes t =
       unless-done refusal.NoSuchTransition (ltb-tells t (N .transitions))
-      (unless-done refusal.NotEnabled (enabled-tells N S t 1)
+      (unless-done (refusal.NotEnabled (short N S t)) (enabled-tells N S t)
       (unless-done refusal.CountFull (held-tells (suc (count S t 0))) (done-is (started N S t) S′)))
 
   end-passes : (t : ℕ) (age : Age) → (apply N S (event.End t age) ≡ done S′)

@@ -1,5 +1,7 @@
 pub mod Tab
+pub mod Lowest
 pub mod Tests
+pub mod Lacking
 pub mod Alls
 pub mod Ages
 pub mod Shape
@@ -7,6 +9,7 @@ pub mod Forward
 pub mod Lawful
 pub mod Back
 pub mod Refusals
+pub mod Tellings
 pub mod Turns
 pub mod Run
 pub mod Reversed

@@ -1,24 +1,25 @@
 -- The owed report is what document 01 says: the two sets, their numbers, the lowest of each, and the standing.
 -- Assumes nothing.
-use mathlib.Core.Path.{_≡_, refl, sym, ap}
-use mathlib.Core.Bool.{Bool, true, false, cond}
-use mathlib.Core.Logic.{_↔_, _⊎_, inl, inr}
-use Prim.Native.Nat.{ℕ, zero, suc, _<_, _≤_}
+use mathlib.Core.Path.{_≡_, refl, ap}
+use mathlib.Core.Bool.{Bool}
+use mathlib.Core.Logic.{_↔_}
+use Prim.Native.Nat.{ℕ, zero, suc, _≤_}
 use native.Mathlib.Omega.{arith}
 use Rattle.model.specs.declared.event.Event.the-variants as event
 use Rattle.model.specs.declared.answer.Standing.{Standing}
 use Rattle.model.specs.declared.answer.Standing.the-variants as standing
-use Rattle.model.specs.Tab.{Tells, howMany, lowest}
+use Rattle.model.specs.Tab.{Tells, howMany}
 use Rattle.model.specs.Net.{Net, State, count}
 use Rattle.model.specs.Moves.{NoStartOwed, NoEndOwed}
 use Rattle.model.specs.Rules.{ticked, apply, done}
-use Rattle.model.specs.Owed.{OwesStart, owes-start?, OwesEnd, owes-end?, HowMany, wordBits, Lowest, Stands, standingOf, Report, Reports, owed}
-use Rattle.model.proofs.Tab.{both-tell, below-or-past, at-or-below}
+use Rattle.model.specs.Owed.{OwesStart, owes-start?, OwesEnd, owes-end?, HowMany, wordBits, Stands, standingOf, Report, Reports, owed}
+use Rattle.model.proofs.Tab.{both-tell}
 use Rattle.model.proofs.Tests.{leb-tells, ltb-tells, enabled-tells, no-start-owed-tells, no-end-owed-tells}
 use Rattle.model.proofs.Tests.{nothing-running-tells, decide, told-true, told-false, tells-once}
+use Rattle.model.proofs.Lowest.{lowest-is, lowest-once}
 use Rattle.model.proofs.Forward.{ticks, apply-exact}
 
--- OF ANY SET THAT A TEST TELLS
+-- HOW MANY A SET HAS THAT A TEST TELLS
 
 module _ {f : ℕ → Bool} {A : ℕ → Type 0} (each : (i : ℕ) → Tells (f i) (A i)) where
   pub how-many-is : (n : ℕ) → HowMany A n (howMany n f)
@@ -29,37 +30,7 @@ module _ {f : ℕ → Bool} {A : ℕ → Type 0} (each : (i : ℕ) → Tells (f 
       (λ a. rw (told-true (each n) a) (HowMany.one-more a (how-many-is n)))
       (λ a. rw (told-false (each n) a) (HowMany.no-more a (how-many-is n)))
 
-  -- l is the lowest from n on and below m, or z where there is none
-  LowestFrom : ℕ → ℕ → ℕ → ℕ → Type 0
-  LowestFrom z n m l =
-      ((l < m) × (n ≤ l) × A l × ((i : ℕ) → n ≤ i → i < l → ¬ A i))
-      ⊎ ((l ≡ z) × ((i : ℕ) → n ≤ i → i < m → ¬ A i))
-
-  lower : (z n m l : ℕ) → n < m → LowestFrom z (suc n) m l → (b : Bool) → Tells b (A n) → LowestFrom z n m (cond b n l)
-  unfolding LowestFrom
-  lower z n m l h so-far true t = inl (h, omega arith, t .sound tt, λ i a b. absurd (omega arith))
-  lower z n m l h so-far false t = elim so-far [
-    | inl (b, o, here, none) ↦ inl (b, omega arith, here, λ i p q. from-n i p (λ r. none i r q))
-    | inr (e, none) ↦ inr (e, λ i p q. from-n i p (λ r. none i r q))
-  ]
-    where
-      -- what holds of none from n + 1 on, and not of n, holds of none from n on
-      from-n : (i : ℕ) → n ≤ i → (suc n ≤ i → ¬ A i) → ¬ A i
-      from-n i p above = at-or-below n i p (λ e. rw (← e) (t .complete)) above
-
-  descend : (z n m l : ℕ) → n ≤ m → LowestFrom z n m l → LowestFrom z 0 m (lowest l n f)
-  unfolding lowest
-  descend z zero m l h so-far = so-far
-  descend z (suc n) m l h so-far = descend z n m (cond (f n) n l) (omega arith) (lower z n m l (omega arith) so-far (f n) (each n))
-
-  pub lowest-is : (z m : ℕ) → Lowest A m z (lowest z m f)
-  unfolding LowestFrom
-  lowest-is z m = elim (descend z m m z (omega arith) (inr (refl, λ i p q. absurd (omega arith)))) [
-    | inl (b, o, here, none) ↦ Lowest.found b here (λ i q. none i (omega arith) q)
-    | inr (e, none) ↦ rw e (Lowest.empty (λ i q. none i (omega arith) q))
-  ]
-
--- two numbers, or two lowest ones, of one set are equal
+-- two numbers of one set are equal
 pub how-many-once : {A : ℕ → Type 0} {n k l : ℕ} → HowMany A n k → HowMany A n l → k ≡ l
 how-many-once HowMany.none HowMany.none = refl
 how-many-once (HowMany.one-more a s) (HowMany.one-more b t) = ap suc (how-many-once s t)
@@ -67,19 +38,12 @@ how-many-once (HowMany.one-more a s) (HowMany.no-more b t) = absurd (b a)
 how-many-once (HowMany.no-more a s) (HowMany.one-more b t) = absurd (a b)
 how-many-once (HowMany.no-more a s) (HowMany.no-more b t) = how-many-once s t
 
-pub lowest-once : {A : ℕ → Type 0} {n z k l : ℕ} → Lowest A n z k → Lowest A n z l → k ≡ l
-lowest-once {k} {l} (Lowest.found p a none) (Lowest.found q b none′) =
-    below-or-past k l (λ h. absurd (none′ k h a)) (λ h. at-or-below l k h sym (λ g. absurd (none l g b)))
-lowest-once {k} (Lowest.found p a none) (Lowest.empty none′) = absurd (none′ k p a)
-lowest-once {l} (Lowest.empty none) (Lowest.found q b none′) = absurd (none l q b)
-lowest-once (Lowest.empty none) (Lowest.empty none′) = refl
-
 module _ (N : Net) (S : State) where
   -- THE SETS
 
   pub owes-start-tells : (t : ℕ) → Tells (owes-start? N S t) (OwesStart N S t)
   unfolding owes-start?
-  owes-start-tells t = both-tell (ltb-tells t (N .transitions)) (enabled-tells N S t 1)
+  owes-start-tells t = both-tell (ltb-tells t (N .transitions)) (enabled-tells N S t)
 
   pub owes-end-tells : (t : ℕ) → Tells (owes-end? N S t) (OwesEnd N S t)
   unfolding owes-end?

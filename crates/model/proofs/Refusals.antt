@@ -2,19 +2,23 @@
 -- Assumes nothing.
 use mathlib.Core.Path.{_≡_, refl, sym, ap, _∙_}
 use mathlib.Core.Logic.{_↔_, _⊎_, inl, inr}
-use Prim.Native.Nat.{ℕ, suc}
+use Prim.Native.Nat.{ℕ, suc, _<_}
+use native.Mathlib.Omega.{arith}
 use Rattle.model.specs.declared.age.Age.{Age}
 use Rattle.model.specs.declared.event.Event.{Event}
 use Rattle.model.specs.declared.event.Event.the-variants as event
+use Rattle.model.specs.declared.answer.Short.{Short}
 use Rattle.model.specs.declared.answer.Refusal.{Refusal}
 use Rattle.model.specs.declared.answer.Refusal.the-variants as refusal
+use Rattle.model.specs.Answer.{numberOfRefusal}
 use Rattle.model.specs.Net.{Net, State, Lawful, count}
 use Rattle.model.specs.Moves.{Moves}
-use Rattle.model.specs.Refusals.{Unfit, Fit, Refuses, Barred}
-use Rattle.model.specs.Rules.{Outcome, done, refused, apply, back}
+use Rattle.model.specs.Refusals.{Unfit, Fit, Refuses, FallsShort, Barred}
+use Rattle.model.specs.Rules.{Outcome, done, refused, short, apply, back}
 use Rattle.model.proofs.Tests.{leb-tells, ltb-tells, not-tells, held-tells, timely-tells, enabled-tells, no-start-owed-tells}
 use Rattle.model.proofs.Tests.{no-end-owed-tells, nothing-running-tells, has-room-tells, covers-tells, none-fresh-tells}
 use Rattle.model.proofs.Tests.{stable, never, past, fails, refusal-by}
+use Rattle.model.proofs.Lacking.{lacks-short, lacks-fails, lacks-once}
 use Rattle.model.proofs.Back.{back-exact}
 
 same-refusal : {why told : Refusal} → refused why ≡ refused told → told ≡ why
@@ -26,7 +30,8 @@ module _ (N : Net) (S : State) where
   start-told t why =
       refusal-by refusal.NoSuchTransition _ (ltb-tells t (N .transitions))
       (λ a q. rw q (Refuses.unfit (Unfit.no-such-start a))) (λ l.
-      refusal-by refusal.NotEnabled _ (enabled-tells N S t 1) (λ a q. rw q (Refuses.not-enabled l a)) (λ en.
+      refusal-by (refusal.NotEnabled (short N S t)) _ (enabled-tells N S t)
+      (λ a q. rw q (Refuses.not-enabled (t, refl, l, lacks-short N S t a))) (λ en.
       refusal-by refusal.CountFull _ (held-tells (suc (count S t 0))) (λ a q. rw q (Refuses.count-full l en a)) (λ _. never)))
 
   end-told : (t : ℕ) (age : Age) (why : Refusal) → apply N S (event.End t age) ≡ refused why → Refuses N S (event.End t age) why
@@ -55,11 +60,15 @@ module _ (N : Net) (S : State) where
   tells (Refuses.unfit Unfit.malformed) = refl
   tells (Refuses.unfit (Unfit.no-such-start {t} a)) = fails refusal.NoSuchTransition _ (ltb-tells t (N .transitions)) a
   tells (Refuses.unfit (Unfit.no-such-end {t} a)) = fails refusal.NoSuchTransition _ (ltb-tells t (N .transitions)) a
-  tells (Refuses.not-enabled {t} l a) =
-      past refusal.NoSuchTransition (ltb-tells t (N .transitions)) l (fails refusal.NotEnabled _ (enabled-tells N S t 1) a)
+  tells (Refuses.not-enabled (t, q, l, a)) =
+      let f = lacks-fails N S t a in
+      rw q
+      (past refusal.NoSuchTransition (ltb-tells t (N .transitions)) l
+      (fails (refusal.NotEnabled (short N S t)) _ (enabled-tells N S t) f
+      ∙ ap (λ (s : Short). refused (refusal.NotEnabled s)) (lacks-once N S t (lacks-short N S t f) a)))
   tells (Refuses.count-full {t} l en a) =
       past refusal.NoSuchTransition (ltb-tells t (N .transitions)) l
-      (past refusal.NotEnabled (enabled-tells N S t 1) en (fails refusal.CountFull _ (held-tells (suc (count S t 0))) a))
+      (past (refusal.NotEnabled (short N S t)) (enabled-tells N S t) en (fails refusal.CountFull _ (held-tells (suc (count S t 0))) a))
   tells (Refuses.outside-interval {t} {age} l a) =
       past refusal.NoSuchTransition (ltb-tells t (N .transitions)) l
       (fails refusal.OutsideInterval _ (timely-tells N t (age .0)) a)
@@ -85,6 +94,22 @@ apply-refuses N S event.Tick why = (tick-told N S why, tells N S)
 apply-refuses N S (event.Start t) why = (start-told N S t why, tells N S)
 apply-refuses N S (event.End t age) why = (end-told N S t age why, tells N S)
 apply-refuses N S event.Malformed why = (malformed-told N S why, tells N S)
+
+-- 11 and 12 are not 13, which falls to a start alone
+unfit-number : {N : Net} {e : Event} {why : Refusal} → Unfit N e why → numberOfRefusal why < 13
+unfit-number Unfit.malformed = omega arith
+unfit-number (Unfit.no-such-start a) = omega arith
+unfit-number (Unfit.no-such-end a) = omega arith
+
+pub falls-short : {N : Net} {S : State} {e : Event} {s : Short} → Refuses N S e (refusal.NotEnabled s) → FallsShort N S e s
+falls-short (Refuses.not-enabled f) = f
+falls-short (Refuses.unfit u) = absurd (omega (arith, unfit-number u))
+
+pub short-told : (N : Net) (S : State) (e : Event) (s : Short) → (apply N S e ≡ refused (refusal.NotEnabled s)) ↔ FallsShort N S e s
+short-told N S e s = (
+  (λ r. falls-short (apply-refuses N S e (refusal.NotEnabled s) .0 r)),
+  λ f. apply-refuses N S e (refusal.NotEnabled s) .1 (Refuses.not-enabled f),
+)
 
 -- BACK
 

@@ -12,8 +12,10 @@ use Rattle.model.specs.Tab.{Tells}
 use Rattle.model.specs.Limits.{Sized, sized?, IsInterval, interval?, Logged, logged?, Held, held?, placeLimit, transitionLimit, durationLimit, eventLimit, tokenLimit}
 use Rattle.model.specs.Net.{Net, State, width, tokens, count}
 use Rattle.model.specs.Moves.{Enabled, NoStartOwed, NoEndOwed, NothingRunning, Timely, HasRoom}
-use Rattle.model.specs.Rules.{Outcome, done, refused, unless, enabled?, no-start-owed?, no-end-owed?, nothing-running?, timely?, has-room?, Covers, covers?, NoneFresh, none-fresh?}
+use Rattle.model.specs.Rules.{Outcome, done, refused, unless, lackingPlace, enabled?, no-start-owed?, no-end-owed?, nothing-running?, timely?, has-room?, Covers, covers?, NoneFresh, none-fresh?}
+use Rattle.model.specs.Owed.{Lowest}
 use Rattle.model.proofs.Tab.{all-tells, both-tell, below-suc}
+use Rattle.model.proofs.Lowest.{lowest-is, lowest-once}
 
 pub leb-tells : (m n : ℕ) → Tells (leb m n) (m ≤ n)
 leb-tells m n = record { sound = leb→le m n; complete = le→leb m n }
@@ -54,13 +56,31 @@ unfolding timely?
 timely-tells N t j = both-tell (leb-tells (N .sfd t) j) (leb-tells j (N .lfd t))
 
 module _ (N : Net) (S : State) where
-  pub enabled-tells : (t n : ℕ) → Tells (enabled? N S t n) (Enabled N S t n)
+  -- the place that the test finds is the lowest that has too few tokens
+  pub lacking-lowest : (t : ℕ) → Lowest (λ p. tokens S p < N .takes t p) (N .places) (N .places) (lackingPlace N S t)
+  unfolding lackingPlace
+  lacking-lowest t = lowest-is (λ p. ltb-tells (tokens S p) (N .takes t p)) (N .places) (N .places)
+
+  pub enabled-tells : (t : ℕ) → Tells (enabled? N S t) (Enabled N S t 1)
   unfolding enabled?
-  enabled-tells t n = all-tells (N .places) (λ p. leb-tells (n * N .takes t p) (tokens S p))
+  enabled-tells t = tells-as (none (lacking-lowest t)) found-none (eqb-tells (lackingPlace N S t) (N .places))
+    where
+      enough : (w m : ℕ) → ¬ (m < w) → 1 * w ≤ m
+      enough w m h = omega arith
+
+      none : {l : ℕ} → Lowest (λ p. tokens S p < N .takes t p) (N .places) (N .places) l → l ≡ N .places → Enabled N S t 1
+      none (Lowest.found b falls below) e = absurd (omega arith)
+      none (Lowest.empty fails) e = λ p b. enough (N .takes t p) (tokens S p) (fails p b)
+
+      found-none : Enabled N S t 1 → lackingPlace N S t ≡ N .places
+      found-none en =
+          let empty : Lowest (λ p. tokens S p < N .takes t p) (N .places) (N .places) (N .places) =
+          Lowest.empty (λ p b falls. omega (arith, en p b)) in
+          lowest-once (lacking-lowest t) empty
 
   pub no-start-owed-tells : Tells (no-start-owed? N S) (NoStartOwed N S)
   unfolding no-start-owed?
-  no-start-owed-tells = all-tells (N .transitions) (λ t. not-tells (enabled-tells t 1))
+  no-start-owed-tells = all-tells (N .transitions) (λ t. not-tells (enabled-tells t))
 
   pub no-end-owed-tells : Tells (no-end-owed? N S) (NoEndOwed N S)
   unfolding no-end-owed?

@@ -1,6 +1,7 @@
--- Document 01's numbers for the answer to an event, done or taken back, and for the standing.
+-- Document 01's numbers for the answer to an event, done or taken back, with the place that 13 tells of, and for the standing.
 -- Assumes nothing.
 use Prim.Native.Nat.{ℕ}
+use Rattle.model.specs.declared.answer.Short.{Short}
 use Rattle.model.specs.declared.answer.Refusal.{Refusal}
 use Rattle.model.specs.declared.answer.Refusal.the-variants as refusal
 use Rattle.model.specs.declared.answer.Answer.{Answer}
@@ -8,22 +9,48 @@ use Rattle.model.specs.declared.answer.Answer.the-variants as answer
 use Rattle.model.specs.declared.answer.Standing.{Standing}
 use Rattle.model.specs.declared.answer.Standing.the-variants as standing
 
+-- no place is short
+abbrev pub nothingShort : Short
+nothingShort = record { place = 0; lacks = 0 }
+
+-- what is told of an answer: its number, and the place that is short
+pub record Telling : Type 0 where
+  pub number : ℕ
+  pub short : Short
+
+-- a number that tells of no place
+abbrev pub plain : ℕ → Telling
+plain number = record { number = number; short = nothingShort }
+
+-- 13 alone tells of a place
+abbrev pub tellingOfRefusal : Refusal → Telling
+tellingOfRefusal refusal.Malformed = plain 11
+tellingOfRefusal refusal.NoSuchTransition = plain 12
+tellingOfRefusal (refusal.NotEnabled short) = record { number = 13; short = short }
+tellingOfRefusal refusal.CountFull = plain 14
+tellingOfRefusal refusal.OutsideInterval = plain 15
+tellingOfRefusal refusal.NoneOfThatAge = plain 16
+tellingOfRefusal refusal.PlaceFull = plain 17
+tellingOfRefusal refusal.StartOwed = plain 18
+tellingOfRefusal refusal.EndOwed = plain 19
+tellingOfRefusal refusal.NothingRunning = plain 20
+tellingOfRefusal refusal.NoStateBefore = plain 21
+
+abbrev pub tellingOf : Answer → Telling
+tellingOf answer.Done = plain 0
+tellingOf (answer.Refused why) = tellingOfRefusal why
+
 abbrev pub numberOfRefusal : Refusal → ℕ
-numberOfRefusal refusal.Malformed = 11
-numberOfRefusal refusal.NoSuchTransition = 12
-numberOfRefusal refusal.NotEnabled = 13
-numberOfRefusal refusal.CountFull = 14
-numberOfRefusal refusal.OutsideInterval = 15
-numberOfRefusal refusal.NoneOfThatAge = 16
-numberOfRefusal refusal.PlaceFull = 17
-numberOfRefusal refusal.StartOwed = 18
-numberOfRefusal refusal.EndOwed = 19
-numberOfRefusal refusal.NothingRunning = 20
-numberOfRefusal refusal.NoStateBefore = 21
+numberOfRefusal why = tellingOfRefusal why .number
+
+abbrev pub shortOfRefusal : Refusal → Short
+shortOfRefusal why = tellingOfRefusal why .short
 
 abbrev pub numberOf : Answer → ℕ
-numberOf answer.Done = 0
-numberOf (answer.Refused why) = numberOfRefusal why
+numberOf answer = tellingOf answer .number
+
+abbrev pub shortOf : Answer → Short
+shortOf answer = tellingOf answer .short
 
 abbrev pub numberOfStanding : Standing → ℕ
 numberOfStanding standing.StartOwed = 1

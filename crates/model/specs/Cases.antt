@@ -6,11 +6,12 @@ use Prim.Native.Nat.{ℕ}
 use lib.ListN.{getD}
 use Rattle.model.specs.declared.event.Event.{Event}
 use Rattle.model.specs.declared.event.Event.the-variants as event
+use Rattle.model.specs.declared.answer.Short.{Short}
 use Rattle.model.specs.Answer.{numberOfStanding}
 use Rattle.model.specs.Tab.{howMany}
 use Rattle.model.specs.Net.{Net, State, width, initialState}
 use Rattle.model.specs.Rules.{apply, back, degree}
-use Rattle.model.specs.Run.{Told, Single, single, run, walk}
+use Rattle.model.specs.Run.{RunTold, WalkTold, EventTold, BackTold, toldEvent, toldBack, run, walk}
 use Rattle.model.specs.Owed.{wordBits, standingOf, Report, owed}
 
 -- WHAT A CASE IS
@@ -18,10 +19,10 @@ use Rattle.model.specs.Owed.{wordBits, standingOf, Report, owed}
 -- a run from a state, and the standing that it leaves; a walk back over the last n events; a single event; a single event
 -- taken back; the degree of a transition; the width of the clock matrix; what is owed
 pub data Case : Type 0 where
-  runs : Net → State → List Event → Told → ℕ → Case
-  walks : Net → State → List Event → ℕ → Told → Case
-  does : Net → State → Event → Single → Case
-  undoes : Net → State → Event → Single → Case
+  runs : Net → State → List Event → RunTold → ℕ → Case
+  walks : Net → State → List Event → ℕ → WalkTold → Case
+  does : Net → State → Event → EventTold → Case
+  undoes : Net → State → Event → BackTold → Case
   has-degree : Net → State → ℕ → ℕ → Case
   has-width : Net → ℕ → Case
   owes : Net → State → List ℕ → Case
@@ -32,12 +33,12 @@ digest r =
     howMany wordBits (r .starts) ∷ r .start-count ∷ r .lowest-start
     ∷ howMany wordBits (r .ends) ∷ r .end-count ∷ r .lowest-end ∷ numberOfStanding (r .standing) ∷ []
 
--- the case is answered so: number, index, events done, ticks, the whole state
+-- the case is answered so: number, index, events done, ticks, the place that is short, the whole state
 abbrev pub Holds : Case → Type 0
 Holds (runs N S es r s) = (run N S es ≡ r) × (numberOfStanding (standingOf N (r .state)) ≡ s)
 Holds (walks N S′ es n r) = walk N S′ es n ≡ r
-Holds (does N S e r) = single S (apply N S e) ≡ r
-Holds (undoes N S′ e r) = single S′ (back N S′ e) ≡ r
+Holds (does N S e r) = toldEvent S (apply N S e) ≡ r
+Holds (undoes N S′ e r) = toldBack S′ (back N S′ e) ≡ r
 Holds (has-degree N S t n) = degree N S t ≡ n
 Holds (has-width N d) = width N ≡ d
 Holds (owes N S r) = digest (owed N S) ≡ r
@@ -88,6 +89,18 @@ slowMiddle = record {
   initialMarking = λ p. 1;
 }
 
+-- one transition that takes 2, 4 and 4 from three places, and lasts no tick
+unfoldable pub threefold : Net
+threefold = record {
+  places = 3;
+  transitions = 1;
+  takes = entry ((2 ∷ 4 ∷ 4 ∷ []) ∷ []);
+  gives = entry ((0 ∷ 0 ∷ 1 ∷ []) ∷ []);
+  sfd = λ t. 0;
+  lfd = λ t. 0;
+  initialMarking = λ p. 0;
+}
+
 abbrev marks : ℕ → ℕ → ℕ → List ℕ
 marks a b c = a ∷ b ∷ c ∷ []
 
@@ -115,6 +128,17 @@ loaded n = state (marks 0 n 0) (ages 0 1 0 0) none
 abbrev laden : ℕ → ℕ → ℕ → ℕ → ℕ → State
 laden a b h₀ h₁ h₂ = record { marking = a ∷ b ∷ []; clock = (h₀ ∷ h₁ ∷ h₂ ∷ []) ∷ [] }
 
+abbrev zeros : List ℕ
+zeros = 0 ∷ 0 ∷ 0 ∷ 0 ∷ 0 ∷ []
+
+-- a state of the slow middle's net: no token, and nothing runs
+abbrev idle : State
+idle = record { marking = 0 ∷ []; clock = zeros ∷ zeros ∷ zeros ∷ [] }
+
+-- a state of the threefold net: the marking, and how many firings run
+abbrev trio : ℕ → ℕ → ℕ → ℕ → State
+trio a b c h = record { marking = marks a b c; clock = (h ∷ []) ∷ [] }
+
 -- EVENTS AND ANSWERS
 
 abbrev tick : Event
@@ -130,11 +154,29 @@ end t j = event.End t (record { 0 = j })
 abbrev pub log : List Event
 log = start 0 ∷ tick ∷ end 0 1 ∷ start 1 ∷ end 1 0 ∷ []
 
-abbrev tells : ℕ → ℕ → ℕ → ℕ → State → Told
-tells n i d k S = record { number = n; index = i; done = d; ticks = k; state = S }
+-- no place is short, written out so that another pair of numbers is noticed
+abbrev noPlace : Short
+noPlace = record { place = 0; lacks = 0 }
 
-abbrev answers : ℕ → State → Single
-answers n S = record { number = n; index = 0; state = S }
+-- of a run; of one that 13 ended behind i events, where place p lacks n tokens; of a walk
+abbrev tells : ℕ → ℕ → ℕ → ℕ → State → RunTold
+tells n i d k S = record { number = n; index = i; done = d; ticks = k; short = noPlace; state = S }
+
+abbrev stops-short : ℕ → ℕ → ℕ → ℕ → State → RunTold
+stops-short p n i k S = record { number = 13; index = i; done = i; ticks = k; short = record { place = p; lacks = n }; state = S }
+
+abbrev walked : ℕ → ℕ → ℕ → ℕ → State → WalkTold
+walked n i d k S = record { number = n; index = i; done = d; ticks = k; state = S }
+
+-- of a single event; of one that 13 refuses, where place p lacks n tokens; of one taken back
+abbrev answers : ℕ → State → EventTold
+answers n S = record { number = n; index = 0; short = noPlace; state = S }
+
+abbrev falls-short : ℕ → ℕ → State → EventTold
+falls-short p n S = record { number = 13; index = 0; short = record { place = p; lacks = n }; state = S }
+
+abbrev undone : ℕ → State → BackTold
+undone n S = record { number = n; index = 0; state = S }
 
 -- THE TABLES
 
@@ -149,8 +191,8 @@ cases =
     ∷ runs childrensRow first (start 0 ∷ tick ∷ end 0 2 ∷ []) (tells 16 2 2 1 (state (marks 0 0 0) (ages 0 1 0 0) none)) 3
     ∷ runs childrensRow first (start 0 ∷ tick ∷ end 0 1 ∷ tick ∷ []) (tells 18 3 3 1 (state (marks 0 1 0) none none)) 1
     ∷ runs childrensRow first (log ++ (tick ∷ [])) (tells 20 5 5 1 filled) 4
-    ∷ undoes childrensRow filled (end 1 0) (answers 0 (state (marks 0 0 0) none (ages 1 0 0 0)))
-    ∷ undoes childrensRow first tick (answers 21 (state (marks 1 0 0) none none))
+    ∷ undoes childrensRow filled (end 1 0) (undone 0 (state (marks 0 0 0) none (ages 1 0 0 0)))
+    ∷ undoes childrensRow first tick (undone 21 (state (marks 1 0 0) none none))
     ∷ does childrensRow (loaded 65534) (end 0 1) (answers 0 (state (marks 0 65535 0) none none))
     ∷ does childrensRow (loaded 65535) (end 0 1) (answers 17 (loaded 65535))
     ∷ []
@@ -163,29 +205,34 @@ furtherCases =
     -- 11 and 12, done and taken back
     ∷ does childrensRow filled event.Malformed (answers 11 filled)
     ∷ does childrensRow filled (start 2) (answers 12 filled)
-    ∷ undoes childrensRow filled event.Malformed (answers 11 filled)
-    ∷ undoes childrensRow filled (end 2 0) (answers 12 filled)
+    -- no such transition, though a start of it would find no token: 12 before 13
+    ∷ does slowMiddle idle (start 3) (answers 12 idle)
+    ∷ undoes childrensRow filled event.Malformed (undone 11 filled)
+    ∷ undoes childrensRow filled (end 2 0) (undone 12 filled)
     -- a start taken back, and one that cannot have been: place 0 would have held 65,536
-    ∷ undoes childrensRow (state (marks 0 0 0) (ages 1 0 0 0) none) (start 0) (answers 0 (state (marks 1 0 0) none none))
-    ∷ undoes childrensRow (state (marks 65535 0 0) (ages 1 0 0 0) none) (start 0) (answers 21 (state (marks 65535 0 0) (ages 1 0 0 0) none))
+    ∷ undoes childrensRow (state (marks 0 0 0) (ages 1 0 0 0) none) (start 0) (undone 0 (state (marks 1 0 0) none none))
+    ∷ undoes childrensRow (state (marks 65535 0 0) (ages 1 0 0 0) none) (start 0) (undone 21 (state (marks 65535 0 0) (ages 1 0 0 0) none))
     -- a tick taken back, and two that cannot have been: a firing has age 0; the marking enables transition 0
-    ∷ undoes childrensRow (loaded 0) tick (answers 0 (state (marks 0 0 0) (ages 1 0 0 0) none))
-    ∷ undoes childrensRow (state (marks 0 0 0) (ages 1 1 0 0) none) tick (answers 21 (state (marks 0 0 0) (ages 1 1 0 0) none))
-    ∷ undoes childrensRow (state (marks 1 0 0) (ages 0 1 0 0) none) tick (answers 21 (state (marks 1 0 0) (ages 0 1 0 0) none))
+    ∷ undoes childrensRow (loaded 0) tick (undone 0 (state (marks 0 0 0) (ages 1 0 0 0) none))
+    ∷ undoes childrensRow (state (marks 0 0 0) (ages 1 1 0 0) none) tick (undone 21 (state (marks 0 0 0) (ages 1 1 0 0) none))
+    ∷ undoes childrensRow (state (marks 1 0 0) (ages 0 1 0 0) none) tick (undone 21 (state (marks 1 0 0) (ages 0 1 0 0) none))
     -- a transition not enabled and with a full count: 13 before 14
-    ∷ does childrensRow (state (marks 0 0 0) (ages 65535 0 0 0) none) (start 0) (answers 13 (state (marks 0 0 0) (ages 65535 0 0 0) none))
+    ∷ does childrensRow (state (marks 0 0 0) (ages 65535 0 0 0) none) (start 0) (falls-short 0 1 (state (marks 0 0 0) (ages 65535 0 0 0) none))
     -- no firing, and the age outside the interval: 15 before 16; or the place full: 16 before 17
     ∷ does childrensRow first (end 0 0) (answers 15 (state (marks 1 0 0) none none))
     ∷ does childrensRow (state (marks 0 65535 0) none none) (end 0 1) (answers 16 (state (marks 0 65535 0) none none))
     -- a start and an end owed: 18 before 19
     ∷ does childrensRow (state (marks 1 0 0) (ages 0 0 0 1) none) tick (answers 18 (state (marks 1 0 0) (ages 0 0 0 1) none))
     -- weights above 1: a place one short; the count filled and nearly so; an end taken back, one token short, and with a filled count
-    ∷ does heavy (laden 1 0 0 0 0) (start 0) (answers 13 (laden 1 0 0 0 0))
+    ∷ does heavy (laden 1 0 0 0 0) (start 0) (falls-short 0 1 (laden 1 0 0 0 0))
     ∷ does heavy (laden 5 0 65534 0 0) (start 0) (answers 0 (laden 3 0 65535 0 0))
     ∷ does heavy (laden 5 0 65535 0 0) (start 0) (answers 14 (laden 5 0 65535 0 0))
-    ∷ undoes heavy (laden 0 3 0 0 0) (end 0 2) (answers 0 (laden 0 0 0 0 1))
-    ∷ undoes heavy (laden 0 2 0 0 0) (end 0 2) (answers 21 (laden 0 2 0 0 0))
-    ∷ undoes heavy (laden 0 3 0 0 65535) (end 0 2) (answers 21 (laden 0 3 0 0 65535))
+    ∷ undoes heavy (laden 0 3 0 0 0) (end 0 2) (undone 0 (laden 0 0 0 0 1))
+    ∷ undoes heavy (laden 0 2 0 0 0) (end 0 2) (undone 21 (laden 0 2 0 0 0))
+    ∷ undoes heavy (laden 0 3 0 0 65535) (end 0 2) (undone 21 (laden 0 3 0 0 65535))
+    -- the lowest of two places that lack tokens, after one that has just enough; and a run that ends where all three are short
+    ∷ does threefold (trio 2 2 1 0) (start 0) (falls-short 1 2 (trio 2 2 1 0))
+    ∷ runs threefold (trio 4 9 9 0) (start 0 ∷ start 0 ∷ start 0 ∷ []) (stops-short 0 2 2 0 (trio 0 1 1 2)) 2
     -- two firings that differ only in age
     ∷ runs heavy (laden 3 0 0 1 0) (start 0 ∷ tick ∷ end 0 1 ∷ []) (tells 0 3 3 1 (laden 1 3 0 0 1)) 2
     ∷ runs heavy (laden 3 0 0 1 0) (start 0 ∷ tick ∷ end 0 2 ∷ []) (tells 0 3 3 1 (laden 1 3 0 1 0)) 3
@@ -193,12 +240,12 @@ furtherCases =
     ∷ runs heavy (laden 2 0 0 0 1) (start 0 ∷ tick ∷ []) (tells 19 1 1 0 (laden 0 0 1 0 1)) 2
     -- walks: over all of a log, over its last two events, over none, over more than it has; one that is refused at once, and
     -- one that is refused on its way
-    ∷ walks childrensRow filled log 5 (tells 0 0 5 1 (state (marks 1 0 0) none none))
-    ∷ walks childrensRow filled log 2 (tells 0 3 2 0 (state (marks 0 1 0) none none))
-    ∷ walks childrensRow filled log 0 (tells 0 5 0 0 filled)
-    ∷ walks childrensRow filled log 6 (tells 22 0 0 0 filled)
-    ∷ walks childrensRow first log 5 (tells 21 4 0 0 (state (marks 1 0 0) none none))
-    ∷ walks childrensRow (state (marks 0 0 0) (ages 0 0 1 0) none) (start 1 ∷ start 0 ∷ tick ∷ []) 3 (tells 21 1 1 1 (loaded 0))
+    ∷ walks childrensRow filled log 5 (walked 0 0 5 1 (state (marks 1 0 0) none none))
+    ∷ walks childrensRow filled log 2 (walked 0 3 2 0 (state (marks 0 1 0) none none))
+    ∷ walks childrensRow filled log 0 (walked 0 5 0 0 filled)
+    ∷ walks childrensRow filled log 6 (walked 22 0 0 0 filled)
+    ∷ walks childrensRow first log 5 (walked 21 4 0 0 (state (marks 1 0 0) none none))
+    ∷ walks childrensRow (state (marks 0 0 0) (ages 0 0 1 0) none) (start 1 ∷ start 0 ∷ tick ∷ []) 3 (walked 21 1 1 1 (loaded 0))
     -- degrees, and widths
     ∷ has-degree heavy (laden 5 0 0 0 0) 0 2
     ∷ has-degree heavy (laden 1 0 0 0 0) 0 0

@@ -8,13 +8,15 @@ use Prim.Native.Nat.{ℕ, _-_, _<_, _≤_}
 use lib.ListN.{length, take}
 use Rattle.model.specs.declared.event.Event.{Event}
 use Rattle.model.specs.declared.event.Event.the-variants as event
+use Rattle.model.specs.declared.answer.Short.{Short}
 use Rattle.model.specs.declared.answer.Refusal.{Refusal}
+use Rattle.model.specs.declared.answer.Refusal.the-variants as refusal
 use Rattle.model.specs.declared.answer.Standing.the-variants as standing
 use Rattle.model.specs.Net.{Net, State, Proper, Lawful, IsWidth, Initial, width, initialState}
-use Rattle.model.specs.Moves.{Degree, Moves}
-use Rattle.model.specs.Refusals.{Refuses, Barred}
+use Rattle.model.specs.Moves.{Enabled, Lacks, Degree, Moves}
+use Rattle.model.specs.Refusals.{Refuses, FallsShort, JustShort, Barred}
 use Rattle.model.specs.Rules.{done, refused, apply, back, degree}
-use Rattle.model.specs.Run.{Told, Leads, Ran, Walked, run, walk, lastOf, acceptedRun, acceptedWalk}
+use Rattle.model.specs.Run.{RunTold, WalkTold, Leads, Ran, Walked, run, walk, eventAt, lastOf, acceptedRun, shortRun, acceptedWalk}
 use Rattle.model.specs.Owed.{Report, Reports, owed}
 
 -- DEMAND 2
@@ -28,12 +30,21 @@ pub record Demand2 (N : Net) : Type 0 where
   pub event-accepted : (S : State) (e : Event) (S′ : State) → (apply N S e ≡ done S′) ↔ Moves N S e S′
   -- each refusal is given exactly when document 01 says
   pub event-refused : (S : State) (e : Event) (why : Refusal) → (apply N S e ≡ refused why) ↔ Refuses N S e why
+  -- a transition is not enabled exactly where some place lacks tokens
+  pub not-enabled : (S : State) (t : ℕ) → (¬ Enabled N S t 1) ↔ ((short : Short) × Lacks N S t short)
+  -- 13 tells a place and a shortage exactly where a start finds that place, the lowest, short of so many tokens
+  pub short-told : (S : State) (e : Event) (short : Short) → (apply N S e ≡ refused (refusal.NotEnabled short)) ↔ FallsShort N S e short
+  -- so many more tokens in that place would do, and one fewer would not
+  pub short-just : (S : State) (e : Event) (short : Short) → FallsShort N S e short → JustShort N S e short
   -- a log is accepted exactly when each event in turn is
   pub log-accepted : (S : State) (es : List Event) → (run N S es .number ≡ 0) ↔ ((S′ : State) × Leads N S es S′)
   -- and then all its events and ticks are told, and the state that they lead to
   pub log-leads : (S : State) (es : List Event) (S′ : State) → (run N S es ≡ acceptedRun es S′) ↔ Leads N S es S′
   -- what is told of any log, accepted or refused, is exact, and the state left is the one just before the refused event
-  pub log-told : (S : State) (es : List Event) (r : Told) → (r ≡ run N S es) ↔ Ran N S es r
+  pub log-told : (S : State) (es : List Event) (r : RunTold) → (r ≡ run N S es) ↔ Ran N S es r
+  -- a run ends at 13, and tells a place and a shortage, exactly where its next event falls short
+  pub log-short : (S : State) (es : List Event) (k : ℕ) (short : Short) (S′ : State) → (run N S es ≡ shortRun es k short S′)
+      ↔ ((k < length es) × Leads N S (take k es) S′ × FallsShort N S′ (eventAt es k) short)
   -- the owed report is exact
   pub owed-told : (S : State) (r : Report) → (r ≡ owed N S) ↔ Reports N S r
   -- and 'free to tick' holds exactly where a tick is accepted
@@ -61,7 +72,7 @@ pub record Demand3 (N : Net) : Type 0 where
   pub walk-accepted : (S′ : State) → Lawful N S′ → (es : List Event) (n : ℕ) → n ≤ length es → (S : State)
       → (walk N S′ es n ≡ acceptedWalk es n S) ↔ (Lawful N S × Leads N S (lastOf n es) S′)
   -- and what is told of any walk is exact
-  pub walk-told : (S′ : State) → Lawful N S′ → (es : List Event) (n : ℕ) (r : Told) → (r ≡ walk N S′ es n) ↔ Walked N S′ es n r
+  pub walk-told : (S′ : State) → Lawful N S′ → (es : List Event) (n : ℕ) (r : WalkTold) → (r ≡ walk N S′ es n) ↔ Walked N S′ es n r
 
 -- lawful states stay lawful, forward and back, and the initial state is lawful. (That a walk leaves a lawful state is in `Walked`)
 pub record StaysLawful (N : Net) : Type 0 where

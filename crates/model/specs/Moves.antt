@@ -5,6 +5,7 @@ use mathlib.Core.Path.{_≡_}
 use Prim.Native.Nat.{ℕ, suc, _+_, _*_, _<_, _≤_}
 use Rattle.model.specs.declared.event.Event.{Event}
 use Rattle.model.specs.declared.event.Event.the-variants as event
+use Rattle.model.specs.declared.answer.Short.{Short}
 use Rattle.model.specs.Tab.{one}
 use Rattle.model.specs.Limits.{Held}
 use Rattle.model.specs.Net.{Net, State, Shaped, width, tokens, count}
@@ -14,12 +15,23 @@ abbrev pub Enabled : Net → State → ℕ → ℕ → Type 0
 Enabled N S t n = (p : ℕ) → p < N .places → n * N .takes t p ≤ tokens S p
 
 -- some place has too few tokens for t n times
-abbrev pub Lacking : Net → State → ℕ → ℕ → Type 0
-Lacking N S t n = (p : ℕ) × (p < N .places) × (tokens S p < n * N .takes t p)
+abbrev pub TooFew : Net → State → ℕ → ℕ → Type 0
+TooFew N S t n = (p : ℕ) × (p < N .places) × (tokens S p < n * N .takes t p)
+
+-- place p would have enough for one start of t with k more tokens
+abbrev pub EnoughWith : Net → State → ℕ → ℕ → ℕ → Type 0
+EnoughWith N S t p k = N .takes t p ≤ tokens S p + k
+
+-- the lowest place that has too few tokens for one start of t, and how many it lacks
+pub record Lacks (N : Net) (S : State) (t : ℕ) (short : Short) : Type 0 where
+  pub known : short .place < N .places
+  pub some : 0 < short .lacks
+  pub missing : tokens S (short .place) + short .lacks ≡ N .takes t (short .place)
+  pub lowest : (p : ℕ) → p < short .place → N .takes t p ≤ tokens S p
 
 -- Definition 4: E_t(M), the degree of t, is n
 abbrev pub Degree : Net → State → ℕ → ℕ → Type 0
-Degree N S t n = Enabled N S t n × Lacking N S t (suc n)
+Degree N S t n = Enabled N S t n × TooFew N S t (suc n)
 
 -- no transition is enabled
 abbrev pub NoStartOwed : Net → State → Type 0

@@ -18,7 +18,7 @@ abbrev pub OwesStart : Net → State → ℕ → Type 0
 OwesStart N S t = (t < N .transitions) × Enabled N S t 1
 
 unfoldable pub owes-start? : Net → State → ℕ → Bool
-owes-start? N S t = ltb t (N .transitions) && enabled? N S t 1
+owes-start? N S t = ltb t (N .transitions) && enabled? N S t
 
 -- t is one of the net's transitions and has a count at its lfd: its end is owed
 abbrev pub OwesEnd : Net → State → ℕ → Type 0

@@ -1,14 +1,16 @@
 -- Document 01's table of numbers for one event: which refusal is given exactly when. Each stands behind those before it.
 -- Assumes nothing.
-use Prim.Native.Nat.{ℕ, suc, _<_, _≤_}
+use mathlib.Core.Path.{_≡_}
+use Prim.Native.Nat.{ℕ, suc, _-_, _<_, _≤_}
 use Rattle.model.specs.declared.age.Age.{Age}
 use Rattle.model.specs.declared.event.Event.{Event}
 use Rattle.model.specs.declared.event.Event.the-variants as event
+use Rattle.model.specs.declared.answer.Short.{Short}
 use Rattle.model.specs.declared.answer.Refusal.{Refusal}
 use Rattle.model.specs.declared.answer.Refusal.the-variants as refusal
 use Rattle.model.specs.Limits.{Held}
 use Rattle.model.specs.Net.{Net, State, Lawful, count}
-use Rattle.model.specs.Moves.{Enabled, NoStartOwed, NoEndOwed, NothingRunning, Timely, HasRoom, Moves}
+use Rattle.model.specs.Moves.{Enabled, EnoughWith, Lacks, NoStartOwed, NoEndOwed, NothingRunning, Timely, HasRoom, Moves}
 
 -- 11 and 12, told of an event done and of one taken back
 pub data Unfit (N : Net) : Event → Refusal → Type 0 where
@@ -23,10 +25,19 @@ Fit N (event.Start t) = t < N .transitions
 Fit N (event.End t age) = t < N .transitions
 Fit N event.Malformed = ⊥
 
+-- the event is a start of one of the net's transitions, and this place, the lowest, is short for it
+abbrev pub FallsShort : Net → State → Event → Short → Type 0
+FallsShort N S e short = (t : ℕ) × (e ≡ event.Start t) × (t < N .transitions) × Lacks N S t short
+
+-- so many more tokens in that place would do for the start, and one fewer would not
+abbrev pub JustShort : Net → State → Event → Short → Type 0
+JustShort N S e short = (t : ℕ) × (e ≡ event.Start t)
+    × EnoughWith N S t (short .place) (short .lacks) × ¬ EnoughWith N S t (short .place) (short .lacks - 1)
+
 -- 11 to 20: the event is refused in S, and why
 pub data Refuses (N : Net) (S : State) : Event → Refusal → Type 0 where
   unfit : {e : Event} {why : Refusal} → Unfit N e why → Refuses N S e why
-  not-enabled : {t : ℕ} → t < N .transitions → ¬ Enabled N S t 1 → Refuses N S (event.Start t) refusal.NotEnabled
+  not-enabled : {e : Event} {short : Short} → FallsShort N S e short → Refuses N S e (refusal.NotEnabled short)
   count-full : {t : ℕ} → t < N .transitions → Enabled N S t 1
       → ¬ Held (suc (count S t 0)) → Refuses N S (event.Start t) refusal.CountFull
   outside-interval : {t : ℕ} {age : Age} → t < N .transitions

@@ -3,15 +3,16 @@
 -- Assumes nothing.
 use mathlib.Core.Path.{_≡_}
 use mathlib.Core.Bool.{Bool, cond, _&&_, not}
-use Prim.Native.Nat.{ℕ, zero, suc, _+_, _-_, _*_, _/_, _<_, _≤_}
+use Prim.Native.Nat.{ℕ, zero, suc, _+_, _-_, _/_, _<_, _≤_}
 use lib.Dec.{leb, ltb, eqb}
 use Rattle.model.specs.declared.event.Event.{Event}
 use Rattle.model.specs.declared.event.Event.the-variants as event
+use Rattle.model.specs.declared.answer.Short.{Short}
 use Rattle.model.specs.declared.answer.Refusal.{Refusal}
 use Rattle.model.specs.declared.answer.Refusal.the-variants as refusal
 use Rattle.model.specs.declared.answer.Answer.{Answer}
 use Rattle.model.specs.declared.answer.Answer.the-variants as answer
-use Rattle.model.specs.Tab.{all, one, least}
+use Rattle.model.specs.Tab.{all, one, least, lowest}
 use Rattle.model.specs.Limits.{held?, tokenLimit}
 use Rattle.model.specs.Net.{Net, State, width, tokens, count, build}
 
@@ -35,13 +36,26 @@ abbrev pub stateAfter : State → Outcome → State
 stateAfter S (done S′) = S′
 stateAfter S (refused why) = S
 
--- THE TESTS of the relations of Moves.antt, each by the name of its relation
+-- THE TESTS of the relations of Moves.antt, each by the name of its relation; `lackingPlace` and `short` find what `Lacks` says
 
-unfoldable pub enabled? : Net → State → ℕ → ℕ → Bool
-enabled? N S t n = all (N .places) (λ p. leb (n * N .takes t p) (tokens S p))
+-- the lowest place that lacks tokens for one start of t, or P where none does
+unfoldable pub lackingPlace : Net → State → ℕ → ℕ
+lackingPlace N S t = lowest (N .places) (N .places) (λ p. ltb (tokens S p) (N .takes t p))
+
+-- t is enabled: no such place was found
+unfoldable pub enabled? : Net → State → ℕ → Bool
+enabled? N S t = eqb (lackingPlace N S t) (N .places)
+
+-- what place p lacks for one start of t
+abbrev pub shortAt : Net → State → ℕ → ℕ → Short
+shortAt N S t p = record { place = p; lacks = N .takes t p - tokens S p }
+
+-- the place that the test found, and what it lacks
+unfoldable pub short : Net → State → ℕ → Short
+short N S t = shortAt N S t (lackingPlace N S t)
 
 unfoldable pub no-start-owed? : Net → State → Bool
-no-start-owed? N S = all (N .transitions) (λ t. not (enabled? N S t 1))
+no-start-owed? N S = all (N .transitions) (λ t. not (enabled? N S t))
 
 unfoldable pub no-end-owed? : Net → State → Bool
 no-end-owed? N S = all (N .transitions) (λ t. eqb (count S t (N .lfd t)) 0)
@@ -79,7 +93,7 @@ apply N S event.Tick =
     (unless (not (nothing-running? N S)) refusal.NothingRunning (done (ticked N S))))
 apply N S (event.Start t) =
     unless (ltb t (N .transitions)) refusal.NoSuchTransition
-    (unless (enabled? N S t 1) refusal.NotEnabled
+    (unless (enabled? N S t) (refusal.NotEnabled (short N S t))
     (unless (held? (suc (count S t 0))) refusal.CountFull (done (started N S t))))
 apply N S (event.End t age) =
     unless (ltb t (N .transitions)) refusal.NoSuchTransition

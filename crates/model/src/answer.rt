@@ -1,6 +1,22 @@
 // What one event answers, done or taken back, and the numbers of document 01.
 ghost use mathlib.Core.Path.{_≡_};
-ghost use Rattle.model.specs.Answer.{numberOf, numberOfRefusal, numberOfStanding};
+ghost use Rattle.model.specs.Answer.{nothingShort, numberOfRefusal, shortOfRefusal, numberOf, shortOf, numberOfStanding};
+
+// A place that lacks tokens, and how many it lacks. A byte would be enough for either; but of so small an answer the compiler makes one
+// number, piece by piece, at every event.
+pub struct Short {
+    pub place: u32,
+    pub lacks: u32,
+}
+
+impl Short {
+    // What is told where no place is short.
+    pub fn nothing() -> Short
+        ensures { λ r. ⌜ r ≡ nothingShort ⌝ }
+    {
+        Short { place: 0, lacks: 0 }
+    }
+}
 
 // Why an event is not done or not taken back.
 pub enum Refusal {
@@ -8,8 +24,8 @@ pub enum Refusal {
     Malformed,
     // 12: the net has no such transition.
     NoSuchTransition,
-    // 13, 14: of a start.
-    NotEnabled,
+    // 13, 14: of a start. 13 tells the lowest place that is short.
+    NotEnabled(Short),
     CountFull,
     // 15, 16, 17: of an end.
     OutsideInterval,
@@ -30,7 +46,7 @@ impl Refusal {
         match self {
             Refusal::Malformed => 11,
             Refusal::NoSuchTransition => 12,
-            Refusal::NotEnabled => 13,
+            Refusal::NotEnabled(_) => 13,
             Refusal::CountFull => 14,
             Refusal::OutsideInterval => 15,
             Refusal::NoneOfThatAge => 16,
@@ -39,6 +55,25 @@ impl Refusal {
             Refusal::EndOwed => 19,
             Refusal::NothingRunning => 20,
             Refusal::NoStateBefore => 21,
+        }
+    }
+
+    // The place that is short, which 13 alone tells. Each refusal is named, so that a new one must say what it tells.
+    pub fn short(self) -> Short
+        ensures { λ r. ⌜ r ≡ shortOfRefusal self ⌝ }
+    {
+        match self {
+            Refusal::Malformed => Short::nothing(),
+            Refusal::NoSuchTransition => Short::nothing(),
+            Refusal::NotEnabled(short) => short,
+            Refusal::CountFull => Short::nothing(),
+            Refusal::OutsideInterval => Short::nothing(),
+            Refusal::NoneOfThatAge => Short::nothing(),
+            Refusal::PlaceFull => Short::nothing(),
+            Refusal::StartOwed => Short::nothing(),
+            Refusal::EndOwed => Short::nothing(),
+            Refusal::NothingRunning => Short::nothing(),
+            Refusal::NoStateBefore => Short::nothing(),
         }
     }
 }
@@ -56,6 +91,15 @@ impl Answer {
         match self {
             Answer::Done => 0,
             Answer::Refused(why) => why.number(),
+        }
+    }
+
+    pub fn short(self) -> Short
+        ensures { λ r. ⌜ r ≡ shortOf self ⌝ }
+    {
+        match self {
+            Answer::Done => Short::nothing(),
+            Answer::Refused(why) => why.short(),
         }
     }
 }

@@ -1,9 +1,9 @@
 -- One event on given bytes: computed.
 -- Assumes nothing.
 use mathlib.Core.Path.{refl}
-use Rattle.model.specs.Tab.{tab, all, largest, one}
+use Rattle.model.specs.Tab.{tab, all, largest, lowest, one}
 use Rattle.model.specs.Net.{width, tokens, count, build}
-use Rattle.model.specs.Rules.{enabled?, no-start-owed?, no-end-owed?, nothing-running?, timely?, has-room?, covers?, none-fresh?, started, ended, older, ticked, apply, unstarted, unended, unticked, back}
+use Rattle.model.specs.Rules.{lackingPlace, enabled?, short, no-start-owed?, no-end-owed?, nothing-running?, timely?, has-room?, covers?, none-fresh?, started, ended, older, ticked, apply, unstarted, unended, unticked, back}
 use Rattle.forms.specs.Word.{word, setWord, putWords, putRows}
 use Rattle.forms.specs.Places.{rowAt, countAt}
 use Rattle.forms.specs.Stored.{netOf, stateOf}
@@ -12,7 +12,7 @@ use Rattle.moves.specs.Edges.{DoneNumbers, UndoneNumbers}
 
 pub done-numbers : DoneNumbers
 unfolding
-    tab all largest one width tokens count build enabled? no-start-owed? no-end-owed? nothing-running? timely? has-room? started ended older
+    tab all largest one width tokens count build lowest lackingPlace enabled? short no-start-owed? no-end-owed? nothing-running? timely? has-room? started ended older
     ticked apply word setWord putWords putRows rowAt countAt netOf stateOf written
 done-numbers = record {
   start = (refl, refl);
@@ -25,6 +25,7 @@ done-numbers = record {
   no-start = (refl, refl);
   no-end = (refl, refl);
   not-enabled = (refl, refl);
+  short-is = refl;
   count-full = (refl, refl);
   outside = (refl, refl);
   none-of-that-age = (refl, refl);
@@ -36,7 +37,7 @@ done-numbers = record {
 
 pub undone-numbers : UndoneNumbers
 unfolding
-    tab all largest one width tokens count build enabled? no-start-owed? nothing-running? timely? has-room? covers? none-fresh? unstarted unended
+    tab all largest one width tokens count build lowest lackingPlace enabled? no-start-owed? nothing-running? timely? has-room? covers? none-fresh? unstarted unended
     unticked back word setWord putWords putRows rowAt countAt netOf stateOf written
 undone-numbers = record {
   start = (refl, refl);

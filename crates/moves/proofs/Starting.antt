@@ -1,32 +1,36 @@
 -- A start and a start taken back, on bytes: each return of the code is a case of the rules' outcome.
 -- Assumes nothing.
-use mathlib.Core.Path.{_≡_, refl, sym, _∙_}
+use mathlib.Core.Path.{_≡_, refl, sym, ap, _∙_}
 use mathlib.Core.Bool.{Bool, true, false, not}
 use mathlib.Core.List.{List}
 use Prim.Native.Nat.{ℕ, _+_, _-_, _<_, _≤_}
 use native.Mathlib.Omega.{arith}
-use lib.Dec.{leb}
+use lib.Dec.{leb, eqb}
+use borrow.Author.Tests.{eq-eqb, ne-eqb}
 use Rattle.model.specs.declared.age.Column.{Column}
 use Rattle.model.specs.declared.net.Net.{Net as Shape}
+use Rattle.model.specs.declared.answer.Short.{Short}
 use Rattle.model.specs.declared.answer.Answer.the-variants as answer
 use Rattle.model.specs.declared.answer.Refusal.the-variants as refusal
 use Rattle.model.specs.declared.event.Event.the-variants as event
 use Rattle.model.specs.Age.{columnOf}
 use Rattle.model.specs.Limits.{held?}
-use Rattle.model.specs.Net.{count}
-use Rattle.model.specs.Rules.{enabled?, has-room?, apply, back, started, unstarted}
+use Rattle.model.specs.Net.{tokens, count}
+use Rattle.model.specs.Rules.{lackingPlace, enabled?, short, has-room?, apply, back, started, unstarted}
 use Rattle.model.proofs.Shape.{width-pos}
-use Rattle.model.proofs.Tests.{leb-tells, held-tells, told-true, told-false}
+use Rattle.model.specs.Owed.{Lowest}
+use Rattle.model.proofs.Tests.{leb-tells, held-tells, lacking-lowest, told-true, told-false}
 use Rattle.model.proofs.Alls.{passed, failed, holds}
 use Rattle.forms.specs.Word.{Bytes, byte, setWord, putWords}
 use Rattle.forms.specs.Places.{markAt, inputsAt, countAt}
 use Rattle.forms.specs.Stored.{netOf, stored}
 use Rattle.forms.specs.Frame.{Framed}
 use Rattle.forms.proofs.States.{places-same}
-use Rattle.owed.proofs.ModelTests.{inputs-right}
-use Rattle.moves.specs.Marking.{afterTaking, afterGiving, covered?, roomy?}
+use Rattle.owed.specs.Marks.{shortPlace}
+use Rattle.owed.proofs.ModelTests.{inputs-right, lacking-is}
+use Rattle.moves.specs.Marking.{afterTaking, afterGiving, roomy?}
 use Rattle.moves.specs.After.{applied, takenBack, Answers}
-use Rattle.moves.proofs.Looked.{covered-is, covers-enabled, roomy-is, roomy-each}
+use Rattle.moves.proofs.Looked.{roomy-is, roomy-each}
 use Rattle.moves.proofs.Fired.{raised, lowered, unknown-test, known-test, one-more}
 
 module _ (net : List ℕ) (shape : Shape) (b : List ℕ) (f : Framed net shape b) (t : ℕ) where
@@ -50,16 +54,41 @@ module _ (net : List ℕ) (shape : Shape) (b : List ℕ) (f : Framed net shape b
     room-is : roomy? net from b (shape .places) ≡ has-room? (netOf net) (stored net b) (netOf net .takes t)
     room-is = roomy-is net shape b f from (netOf net .takes t) weights
 
-    -- where the code found that every place has its weight t is enabled
-    pub able-is : covered? net from b (shape .places) ≡ enabled? (netOf net) (stored net b) t 1
-    able-is = covered-is net shape b f from (netOf net .takes t) weights ∙ covers-enabled net b t
+    -- the place that the code found to be short is the one that lacks tokens for a start
+    pub lacks-there : {r : ℕ} → r ≡ shortPlace net from b (shape .places) → r ≡ lackingPlace (netOf net) (stored net b) t
+    lacks-there told = told ∙ lacking-is net shape b f from t weights
+
+  -- the place p that the test found, or P
+  module _ (p : ℕ) (found : p ≡ lackingPlace (netOf net) (stored net b) t) where
+    unable : p < shape .places → enabled? (netOf net) (stored net b) t ≡ false
+    unfolding enabled?
+    unable l = ne-eqb (lackingPlace (netOf net) (stored net b) t) (netOf net .places) (λ e. omega (arith, f .net-framed .has-shape .places-are))
+
+    able : shape .places ≤ p → enabled? (netOf net) (stored net b) t ≡ true
+    unfolding enabled?
+    able u = go (lacking-lowest (netOf net) (stored net b) t) found
+      where
+        go : {l : ℕ} → Lowest (λ q. tokens (stored net b) q < netOf net .takes t q) (netOf net .places) (netOf net .places) l
+            → p ≡ l → eqb l (netOf net .places) ≡ true
+        go (Lowest.found h here below) e = absurd (omega (arith, f .net-framed .has-shape .places-are))
+        go (Lowest.empty none) e = eq-eqb (netOf net .places) (netOf net .places) refl
 
   module _ (known : t < byte net 6) where
-    -- what the code found: `able`, that t is enabled
-    module _ (able : Bool) (tested : able ≡ enabled? (netOf net) (stored net b) t 1) where
-      pub start-disabled : not able ≡ true → Answers net b (applied net b (event.Start t)) (answer.Refused refusal.NotEnabled) b
-      unfolding apply
-      start-disabled unable = simp (known-test net shape b f t known, failed tested unable) (refl, refl)
+    -- the code found place p, and what it lacks
+    pub start-disabled : (p : ℕ) → p ≡ lackingPlace (netOf net) (stored net b) t → p < shape .places
+        → (s : Short) → s ≡ short (netOf net) (stored net b) t
+        → Answers net b (applied net b (event.Start t)) (answer.Refused (refusal.NotEnabled s)) b
+    unfolding apply
+    start-disabled p found l s is = simp (known-test net shape b f t known, unable p found l, is) (refl, refl)
+
+    -- where the buffer x is as it was, that place may be asked what it lacks, and tells it
+    module _ (x : List ℕ) (same : x ≡ b) where
+      pub asks-short : (p : ℕ) → p ≡ lackingPlace (netOf net) (stored net b) t → p < shape .places
+          → Framed net shape x × ((t < byte net 6) × (p < shape .places) × (p ≡ lackingPlace (netOf net) (stored net x) t))
+      asks-short p found l = rw same (f, (known, l, found))
+
+      pub tells-short : {s : Short} → s ≡ short (netOf net) (stored net x) t → s ≡ short (netOf net) (stored net b) t
+      tells-short told = told ∙ ap (λ (y : List ℕ). short (netOf net) (stored net y) t) same
 
     -- v, the count at age 0
     module _ (v : ℕ) (stands : v ≡ count (stored net b) t 0) where
@@ -89,11 +118,11 @@ module _ (net : List ℕ) (shape : Shape) (b : List ℕ) (f : Framed net shape b
                   fits (roomy-each net from b (shape .places) (passed tested free)) x y ex ey,
             )
 
-      -- `able`, that t is enabled; `free`, that the count may go up
-      module _ (able : Bool) (tested : able ≡ enabled? (netOf net) (stored net b) t 1) (found : not able ≡ false) (free : Bool) (room : free ≡ held? (v + 1)) where
+      -- the code found no place; `free`, that the count may go up
+      module _ (p : ℕ) (found : p ≡ lackingPlace (netOf net) (stored net b) t) (none : shape .places ≤ p) (free : Bool) (room : free ≡ held? (v + 1)) where
         pub start-full : not free ≡ true → Answers net b (applied net b (event.Start t)) (answer.Refused refusal.CountFull) b
         unfolding apply
-        start-full full = simp (known-test net shape b f t known, passed tested found, one-more stands (failed room full)) (refl, refl)
+        start-full full = simp (known-test net shape b f t known, able p found none, one-more stands (failed room full)) (refl, refl)
 
         pub start-done : not free ≡ false → Bytes b → (from : ℕ) → from ≡ inputsAt (shape .places) t
             → (c : Column) (at : ℕ) → c ≡ columnOf (record { 0 = 0 }) → at ≡ countAt (shape .places) (shape .width) t c
@@ -101,7 +130,7 @@ module _ (net : List ℕ) (shape : Shape) (b : List ℕ) (f : Framed net shape b
             → Answers net b (applied net b (event.Start t)) answer.Done y
         unfolding apply started
         start-done held small from e c at column place x y ex ey =
-            simp (known-test net shape b f t known, passed tested found, one-more stands (passed room held)) (
+            simp (known-test net shape b f t known, able p found none, one-more stands (passed room held)) (
               refl,
               raised net shape b f small t known (record { 0 = 0 }) fresh from (netOf net .takes t) (weights from e) c at column place v stands
                   (holds (held-tells (v + 1)) (passed room held)) x y ex ey,

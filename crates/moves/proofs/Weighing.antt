@@ -17,8 +17,9 @@ use Rattle.forms.specs.Word.{Bytes, byte, word, setWord, putWords}
 use Rattle.forms.specs.Places.{markAt}
 use Rattle.forms.proofs.WordLaws.{word-fits}
 use Rattle.forms.proofs.Runs.{put-turn}
-use Rattle.owed.specs.Marks.{short?}
-use Rattle.moves.specs.Marking.{afterTaking, afterGiving, covered?, roomy?, taken, given}
+use Rattle.owed.specs.Marks.{short?, shortPlace}
+use Rattle.owed.proofs.ModelTests.{lowest-found, lowest-end, lowest-all}
+use Rattle.moves.specs.Marking.{afterTaking, afterGiving, roomy?, taken, given}
 use Rattle.moves.proofs.Marked.{asked-on, asked-stop, asked-end, asked-word}
 
 -- s is the state at first, and x what it is at place p; the weights stand in the net from `from` on
@@ -55,15 +56,20 @@ module _ (net : List ℕ) (from : ℕ) (s : List ℕ) (small : Bytes s) (p : ℕ
 
     -- place p lacks its weight: y has the places before it set back
     pub take-stop : (n : ℕ) → p < n → markAt p ≤ length s → word s (markAt p) < byte net (from + p) → (y : List ℕ) → y ≡ putWords (markAt 0) p (afterGiving net from x) x
-        → (false ≡ covered? net from s n) × (y ≡ taken net from s n)
-    unfolding covered? taken
-    take-stop n l fits lacks y back =
-        asked-stop (afterTaking net from s) take-ok s small p x written asked n l (rw (lt-ltb _ _ lacks)) (afterGiving net from x) y back (λ q l. omega (arith, take-word fits q l, take-had q l))
+        → (p ≡ shortPlace net from s n) × (y ≡ taken net from s n)
+    unfolding shortPlace taken
+    take-stop n l fits lacks y back = (
+      lowest-found (short? net from s) n p l (lt-ltb _ _ lacks) asked,
+      rw (lowest-all (short? net from s) n) (asked-stop (afterTaking net from s) take-ok s small p x written asked n l (rw (lt-ltb _ _ lacks)) (afterGiving net from x) y back (λ q l. omega (arith, take-word fits q l, take-had q l)) .1),
+    )
 
     -- no place is left
-    pub take-end : (n : ℕ) → n ≤ p → p ≤ n → (true ≡ covered? net from s n) × (x ≡ taken net from s n)
-    unfolding covered? taken
-    take-end n l u = asked-end (afterTaking net from s) take-ok s small p x written asked n l u
+    pub take-end : (n : ℕ) → n ≤ p → p ≤ n → (n ≡ shortPlace net from s n) × (x ≡ taken net from s n)
+    unfolding shortPlace taken
+    take-end n l u = (
+      lowest-end (short? net from s) n p l u asked,
+      rw (lowest-all (short? net from s) n) (asked-end (afterTaking net from s) take-ok s small p x written asked n l u .1),
+    )
 
   -- the weights of the places before p are given, and each of these had room for its own
   module _ (written : x ≡ putWords (markAt 0) p (afterGiving net from s) s)

@@ -4,7 +4,7 @@ use mathlib.Core.Path.{_≡_}
 use mathlib.Core.List.{List, [], _∷_, _++_}
 use Prim.Native.Nat.{ℕ}
 use lib.ListN.{set}
-use Rattle.model.specs.Answer.{numberOf}
+use Rattle.model.specs.Answer.{numberOf, shortOf}
 use Rattle.model.specs.Event.{eventOf}
 use Rattle.model.specs.Rules.{Outcome, answerOf}
 use Rattle.forms.specs.Stored.{netOf}
@@ -40,7 +40,9 @@ pub record DoneNumbers : Type 0 where
   pub start-malformed : Does 0x01 0x01 rowState 11 rowState
   pub no-start : Does 0x03 0x00 rowState 12 rowState
   pub no-end : Does 0x43 0x00 rowState 12 rowState
+  -- place 0, whose weight is 1, has no token
   pub not-enabled : Does 0x01 0x00 spent 13 spent
+  pub short-is : shortOf (answerOf (applied rowNet spent (eventOf 0x01 0x00))) ≡ record { place = 0; lacks = 1 }
   pub count-full : Does 0x01 0x00 (set (set rowState 14 0xFF) 15 0xFF) 14 (set (set rowState 14 0xFF) 15 0xFF)
   pub outside : Does 0x41 0x04 spent 15 spent
   pub none-of-that-age : Does 0x41 0x02 spent 16 spent

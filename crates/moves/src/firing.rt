@@ -42,14 +42,17 @@ pub fn start(net: &[u8], shape: Net, state: &mut [u8], t: usize) -> Answer
     let running = counts::count(net, shape, state, t, Age(0));
     if !Net::held(running + 1) {
         // 13 is told before 14
-        if !starts::enabled(net, shape, state, t) {
-            return Answer::Refused(Refusal::NotEnabled);
+        let p = starts::lacking(net, shape, state, t);
+        if p < shape.places {
+            return Answer::Refused(Refusal::NotEnabled(starts::short(net, shape, state, t, p)));
         }
         return Answer::Refused(Refusal::CountFull);
     }
     let from = places::inputs_at(shape.places, t);
-    if !marking::take(net, from, state, shape.places) {
-        return Answer::Refused(Refusal::NotEnabled);
+    // the test that `lacking` makes, made as the tokens are taken: both promise the same place
+    let p = marking::take(net, from, state, shape.places);
+    if p < shape.places {
+        return Answer::Refused(Refusal::NotEnabled(starts::short(net, shape, state, t, p)));
     }
     words::write16(
         state,
@@ -125,7 +128,7 @@ pub fn unend(net: &[u8], shape: Net, state: &mut [u8], t: usize, age: Age) -> An
         return Answer::Refused(Refusal::NoStateBefore);
     }
     let from = places::outputs_at(shape.places, t);
-    if !marking::take(net, from, state, shape.places) {
+    if marking::take(net, from, state, shape.places) < shape.places {
         return Answer::Refused(Refusal::NoStateBefore);
     }
     words::write16(state, places::count_at(shape, t, age.column()), running + 1);

@@ -10,12 +10,13 @@ ghost use lib.ListN.{length};
 ghost use Rattle.model.specs.Limits.{Held};
 ghost use Rattle.forms.specs.Word.{byte, word, putWords};
 ghost use Rattle.forms.specs.Places.{markAt};
-ghost use Rattle.moves.specs.Marking.{afterTaking, afterGiving, covered?, roomy?, taken, given};
+ghost use Rattle.owed.specs.Marks.{shortPlace};
+ghost use Rattle.moves.specs.Marking.{afterTaking, afterGiving, roomy?, taken, given};
 
-// The weights leave the marking of so many places, if every one of these has its weight.
-pub fn take(net: &[u8], from: usize, state: &mut [u8], places: usize) -> bool
+// The weights leave the marking of so many places, if every one of these has its weight. Answers the lowest that has not, or their number.
+pub fn take(net: &[u8], from: usize, state: &mut [u8], places: usize) -> usize
     requires { ⌜ (places < 256) × (from + places ≤ length (now net)) × (markAt places ≤ length (now state)) ⌝ }
-    ensures { λ r. ⌜ r ≡ covered? (now (net .entry)) from (now (state .entry)) places ⌝ }
+    ensures { λ r. ⌜ r ≡ shortPlace (now (net .entry)) from (now (state .entry)) places ⌝ }
     ensures { λ _. ⌜ now (state .exit) ≡ taken (now (net .entry)) from (now (state .entry)) places ⌝ }
 {
     let mut p = 0;
@@ -28,13 +29,13 @@ pub fn take(net: &[u8], from: usize, state: &mut [u8], places: usize) -> bool
             let marking = words::read16(state, at);
             if marking < weight {
                 give_back(net, from, state, p);
-                return false;
+                return p;
             }
             words::write16(state, at, marking - weight);
             p += 1;
         }
     }
-    true
+    places
 }
 
 // The weights join the marking of so many places, if every one of these has room for its weight.

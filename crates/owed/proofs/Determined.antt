@@ -29,6 +29,8 @@ use Rattle.owed.proofs.starts.lacking.Reads as lacking
 use Rattle.owed.proofs.starts.lacking.Kinds as lacking-kinds
 use Rattle.owed.proofs.starts.enabled.Reads as enabled
 use Rattle.owed.proofs.starts.enabled.Kinds as enabled-kinds
+use Rattle.owed.proofs.starts.short.Reads as short
+use Rattle.owed.proofs.starts.short.Kinds as short-kinds
 use Rattle.owed.proofs.starts.no_start_owed.Reads as no-start-owed
 use Rattle.owed.proofs.starts.no_start_owed.Kinds as no-start-owed-kinds
 use Rattle.owed.proofs.sets.starts_owed.Reads as starts-owed
@@ -76,6 +78,9 @@ lacking-determined κs args x y s s′ p q = p ∙ sym q
 
 pub enabled-determined : Determined 2 enabled-kinds.ps enabled-kinds.r enabled.Learnt
 enabled-determined κs args x y s s′ p q = p ∙ sym q
+
+pub short-determined : Determined 2 short-kinds.ps short-kinds.r short.Learnt
+short-determined κs args x y s s′ p q = p ∙ sym q
 
 pub no-start-owed-determined : Determined 2 no-start-owed-kinds.ps no-start-owed-kinds.r no-start-owed.Learnt
 no-start-owed-determined κs args x y s s′ p q = p ∙ sym q

@@ -4,7 +4,7 @@ use mathlib.Core.Path.{refl}
 use Rattle.model.specs.Tab.{tab, all, largest, least, howMany, lowest}
 use Rattle.model.specs.Net.{width, tokens, count, build}
 use Rattle.model.specs.Cases.{childrensRow}
-use Rattle.model.specs.Rules.{enabled?, no-start-owed?, no-end-owed?, nothing-running?, times, degree}
+use Rattle.model.specs.Rules.{lackingPlace, enabled?, no-start-owed?, no-end-owed?, nothing-running?, times, degree}
 use Rattle.model.specs.Owed.{owes-start?, owes-end?, standingOf, owed}
 use Rattle.forms.specs.Word.{word}
 use Rattle.forms.specs.Places.{countAt}
@@ -15,7 +15,7 @@ use Rattle.owed.specs.Edges.{OwedNumbers, BitNumbers}
 
 pub owed-numbers : OwedNumbers
 unfolding
-    tab all largest least howMany lowest width tokens count build childrensRow enabled? no-start-owed? no-end-owed? nothing-running? times degree
+    tab all largest least howMany lowest width tokens count build childrensRow lackingPlace enabled? no-start-owed? no-end-owed? nothing-running? times degree
     owes-start? owes-end? standingOf owed word countAt stateOf wordOf
 owed-numbers = record { initial = refl; second = refl; due = refl; running = refl; rest = refl; once = refl; often = refl }
 

@@ -3,7 +3,7 @@
 use mathlib.Core.Path.{_≡_, refl, sym, ap, _∙_}
 use mathlib.Core.Bool.{Bool, true, false, cond, not}
 use mathlib.Core.List.{List}
-use Prim.Native.Nat.{ℕ, zero, suc, _+_, _*_, _/_, _%_, _<_, _≤_, min}
+use Prim.Native.Nat.{ℕ, zero, suc, _+_, _-_, _*_, _/_, _%_, _<_, _≤_, min}
 use native.Mathlib.Nat.{div-lt-iff-lt-mul, div-add-mod', mod-lt, mul-le-mul-right}
 use native.Mathlib.Numerals.{add-one}
 use native.Mathlib.Omega.{arith}
@@ -15,20 +15,21 @@ use Rattle.model.specs.declared.answer.Standing.the-variants as standing
 use Rattle.model.specs.Tab.{Tells, all, least, lowest, howMany}
 use Rattle.model.specs.Limits.{tokenLimit}
 use Rattle.model.specs.Net.{Net, State, width, tokens, count}
-use Rattle.model.specs.Rules.{enabled?, no-start-owed?, no-end-owed?, none-fresh?, nothing-running?, covers?, times, degree}
+use Rattle.model.specs.Rules.{lackingPlace, enabled?, short, no-start-owed?, no-end-owed?, none-fresh?, nothing-running?, covers?, times, degree}
 use Rattle.model.specs.Owed.{Lowest, wordBits, owes-start?, owes-end?, standingOf}
 use Rattle.model.proofs.Tab.{all-tells}
 use Rattle.model.proofs.Shape.{width-pos}
-use Rattle.model.proofs.Tests.{ltb-tells, eqb-tells, not-tells, enabled-tells, covers-tells, no-start-owed-tells, no-end-owed-tells, nothing-running-tells, told-true, told-false}
+use Rattle.model.proofs.Tests.{ltb-tells, eqb-tells, not-tells, lacking-lowest, covers-tells, no-start-owed-tells, no-end-owed-tells, nothing-running-tells, told-true, told-false}
 use Rattle.model.proofs.Alls.{tells-same, lacks}
-use Rattle.model.proofs.Owed.{lowest-is, lowest-once, owes-start-tells, owes-end-tells, no-start-owed-is, no-end-owed-is}
+use Rattle.model.proofs.Lowest.{lowest-is, lowest-once}
+use Rattle.model.proofs.Owed.{owes-start-tells, owes-end-tells, no-start-owed-is, no-end-owed-is}
 use Rattle.forms.specs.Word.{byte, word, blank?}
 use Rattle.forms.specs.Places.{markAt, rowAt}
 use Rattle.forms.specs.Stored.{netOf, stored}
 use Rattle.forms.specs.Frame.{Framed}
 use Rattle.forms.proofs.Stored.{count-at}
 use Rattle.forms.proofs.Inside.{mark-stands, known-model}
-use Rattle.owed.specs.Marks.{short?, shortPlace, lackingPlace}
+use Rattle.owed.specs.Marks.{short?, shortPlace}
 use Rattle.owed.specs.Bits.{wordOf}
 use Rattle.owed.specs.Reported.{setOf}
 use Rattle.owed.proofs.OwedWords.{word-ones, word-low, word-none, word-zero}
@@ -86,25 +87,6 @@ unfolding lowest
 lowest-cong f g zero none h = refl
 lowest-cong f g (suc n) none h = rw (h n (omega arith)) (lowest-cong f g n (cond (g n) n none) (λ i l. h i (omega arith)))
 
--- THE PLACE THAT LACKS TOKENS
-
-module _ (N : Net) (S : State) (t : ℕ) where
-  -- it is the lowest
-  pub lacking-lowest : Lowest (λ p. tokens S p < N .takes t p) (N .places) (N .places) (lackingPlace N S t)
-  unfolding lackingPlace
-  lacking-lowest = lowest-is (λ p. ltb-tells (tokens S p) (N .takes t p)) (N .places) (N .places)
-
-  -- there is none exactly where t is enabled once
-  pub lacking-none : eqb (lackingPlace N S t) (N .places) ≡ enabled? N S t 1
-  unfolding lackingPlace
-  lacking-none =
-      lowest-all (λ p. ltb (tokens S p) (N .takes t p)) (N .places)
-      ∙ tells-same (all-tells (N .places) (λ p. not-tells (ltb-tells (tokens S p) (N .takes t p)))) (enabled-tells N S t 1)
-      (λ g p l. enough (g p l)) (λ g p l less. omega (arith, g p l))
-    where
-      enough : {m w : ℕ} → ¬ (m < w) → 1 * w ≤ m
-      enough h = omega arith
-
 -- THE MARKING
 
 module _ (net : List ℕ) (shape : Shape) (b : List ℕ) (f : Framed net shape b) (from : ℕ) where
@@ -139,6 +121,23 @@ module _ (net : List ℕ) (shape : Shape) (b : List ℕ) (f : Framed net shape b
       lowest-cong (short? net from b) lacks (shape .places) (shape .places) (λ p h. rw (right p, mark-stands net shape b f p h))
       ∙ ap (λ (n : ℕ). lowest n n lacks) places-are
 
+  -- and it lacks its weight less its tokens
+  pub short-is : (t : ℕ) → ((p : ℕ) → byte net (from + p) ≡ netOf net .takes t p)
+      → (p : ℕ) → p < shape .places → p ≡ lackingPlace (netOf net) (stored net b) t
+      → (w m : ℕ) → w ≡ byte net (from + p) → m ≡ word b (markAt p)
+      → (m < w) × (record { place = p; lacks = w - m } ≡ short (netOf net) (stored net b) t)
+  unfolding short
+  short-is t right p l e w m weight marking =
+      let stands = mark-stands net shape b f p l in (
+        omega (arith, stands, right p, falls (lacking-lowest (netOf net) (stored net b) t) e),
+        rw (weight, marking, stands, right p, ← e),
+      )
+    where
+      falls : {q : ℕ} → Lowest (λ q. tokens (stored net b) q < netOf net .takes t q) (netOf net .places) (netOf net .places) q
+          → p ≡ q → tokens (stored net b) p < netOf net .takes t p
+      falls (Lowest.found b here below) same = rw same here
+      falls (Lowest.empty none) same = absurd (omega (arith, places-are))
+
   -- the degree is the least of the shares
   pub degree-is : (t : ℕ) → ((p : ℕ) → byte net (from + p) ≡ netOf net .takes t p)
       → least tokenLimit (shape .places) (λ p. times (byte net (from + p)) (word b (markAt p))) ≡ degree (netOf net) (stored net b) t
@@ -170,9 +169,9 @@ module _ (net : List ℕ) (shape : Shape) (b : List ℕ) (f : Framed net shape b
   abbrev transitions-are : shape .transitions ≡ netOf net .transitions
   transitions-are = f .net-framed .has-shape .transitions-are
 
-  pub no-start-is : all (shape .transitions) (λ t. not (enabled? (netOf net) (stored net b) t 1)) ≡ no-start-owed? (netOf net) (stored net b)
+  pub no-start-is : all (shape .transitions) (λ t. not (enabled? (netOf net) (stored net b) t)) ≡ no-start-owed? (netOf net) (stored net b)
   unfolding no-start-owed?
-  no-start-is = ap (λ (n : ℕ). all n (λ t. not (enabled? (netOf net) (stored net b) t 1))) transitions-are
+  no-start-is = ap (λ (n : ℕ). all n (λ t. not (enabled? (netOf net) (stored net b) t))) transitions-are
 
   pub no-end-is : all (shape .transitions) (λ t. eqb (count (stored net b) t (netOf net .lfd t)) 0) ≡ no-end-owed? (netOf net) (stored net b)
   unfolding no-end-owed?
@@ -183,7 +182,7 @@ module _ (net : List ℕ) (shape : Shape) (b : List ℕ) (f : Framed net shape b
   none-fresh-is = ap (λ (n : ℕ). all n (λ t. eqb (count (stored net b) t 0) 0)) transitions-are
 
   -- a bit of the two words, for a transition that there is
-  pub start-bit : (t : ℕ) → t < byte net 6 → owes-start? (netOf net) (stored net b) t ≡ enabled? (netOf net) (stored net b) t 1
+  pub start-bit : (t : ℕ) → t < byte net 6 → owes-start? (netOf net) (stored net b) t ≡ enabled? (netOf net) (stored net b) t
   unfolding owes-start?
   start-bit t h = rw (lt-ltb t (netOf net .transitions) (known-model net shape b f t h))
 

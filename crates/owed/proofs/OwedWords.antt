@@ -13,7 +13,7 @@ use lib.Count.{ones, ones-cat, trailingZeros, under, trailing-of-zero}
 use Rattle.model.specs.Tab.{Tells, oneIf, howMany, lowest}
 use Rattle.model.specs.Owed.{Lowest}
 use Rattle.model.proofs.Tab.{below-or-past, at-or-below}
-use Rattle.model.proofs.Owed.{lowest-is, lowest-once}
+use Rattle.model.proofs.Lowest.{lowest-is, lowest-once}
 use Rattle.owed.specs.Bits.{wordOf, bitAt}
 
 bit-lt : (b : Bool) → oneIf b < 2

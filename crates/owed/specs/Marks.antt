@@ -5,7 +5,6 @@ use mathlib.Core.List.{List}
 use Prim.Native.Nat.{ℕ, _+_}
 use lib.Dec.{ltb}
 use Rattle.model.specs.Tab.{lowest}
-use Rattle.model.specs.Net.{Net, State, tokens}
 use Rattle.forms.specs.Word.{byte, word}
 use Rattle.forms.specs.Places.{markAt}
 
@@ -16,7 +15,3 @@ short? net from state p = ltb (word state (markAt p)) (byte net (from + p))
 -- the lowest of n places that is short, or n
 unfoldable pub shortPlace : List ℕ → ℕ → List ℕ → ℕ → ℕ
 shortPlace net from state n = lowest n n (short? net from state)
-
--- the lowest place that lacks tokens for a start of t, or P where none does
-unfoldable pub lackingPlace : Net → State → ℕ → ℕ
-lackingPlace N S t = lowest (N .places) (N .places) (λ p. ltb (tokens S p) (N .takes t p))

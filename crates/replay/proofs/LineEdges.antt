@@ -25,16 +25,18 @@ figure : (n : ℕ) → n < 10 → Fewest 10 1 n 1
 figure n h = (omega arith, omega arith, λ l. absurd (omega arith))
 
 -- the line of the result, at the front of a buffer
-result-at : (rest : List ℕ) → Line (zeros 18 ++ rest) 0 resultName (resultFields (result 13 7 2 1 3)) [] (resultText ++ rest) 18
+result-at : (rest : List ℕ) → Line (zeros 22 ++ rest) 0 resultName (resultFields (result 13 7 2 1 3 6 5)) [] (resultText ++ rest) 22
 result-at rest = record {
   numbered = _;
-  last = 17;
+  last = 21;
   fields =
       more (spell _ _ 13 2 (omega arith, omega arith, λ l. omega arith))
       (more (spell _ _ 7 1 (figure 7 (omega arith)))
       (more (spell _ _ 2 1 (figure 2 (omega arith)))
       (more (spell _ _ 1 1 (figure 1 (omega arith)))
-      (more (spell _ _ 3 1 (figure 3 (omega arith))) none))));
+      (more (spell _ _ 3 1 (figure 3 (omega arith)))
+      (more (spell _ _ 6 1 (figure 6 (omega arith)))
+      (more (spell _ _ 5 1 (figure 5 (omega arith))) none))))));
   ended = refl;
   ends = refl;
 }
@@ -70,21 +72,23 @@ line-edges = record {
       early refl
       (record {
         numbered = _;
-        last = 17;
+        last = 21;
         fields =
             more (spell _ _ 10 2 (omega arith, omega arith, λ l. omega arith))
             (more (spell _ _ 0 1 (figure 0 (omega arith)))
             (more (spell _ _ 0 1 (figure 0 (omega arith)))
             (more (spell _ _ 0 1 (figure 0 (omega arith)))
-            (more (spell _ _ 0 1 (figure 0 (omega arith))) none))));
+            (more (spell _ _ 0 1 (figure 0 (omega arith)))
+            (more (spell _ _ 0 1 (figure 0 (omega arith)))
+            (more (spell _ _ 0 1 (figure 0 (omega arith))) none))))));
         ended = refl;
         ends = refl;
       });
   both =
-      late {between = resultText ++ zeros 16} {at = 18} refl (result-at (zeros 16))
+      late {between = resultText ++ zeros 16} {at = 22} refl (result-at (zeros 16))
       (record {
         numbered = _;
-        last = 29;
+        last = 33;
         fields =
             more (spell _ _ 0 1 (figure 0 (omega arith)))
             (more (spell _ _ 0 1 (figure 0 (omega arith)))

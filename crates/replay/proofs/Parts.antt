@@ -7,12 +7,14 @@ use Prim.Native.Nat.{ℕ, _-_, _<_, _≤_}
 use lib.ListN.{length, take, drop}
 use borrow.Author.Tests.{le-leb, lt-leb, eq-eqb, ne-eqb}
 use Rattle.forms.specs.Word.{word32}
-use Rattle.runs.specs.declared.told.Told.{Told}
+use Rattle.model.specs.declared.answer.Short.{Short}
+use Rattle.model.specs.Answer.{nothingShort}
+use Rattle.runs.specs.declared.told.RunTold.{RunTold}
 use Rattle.logs.proofs.PairLaws.{rest}
 use Rattle.engine.specs.declared.answers.Verdict.{Verdict}
 use Rattle.engine.specs.Calls.{initialTold, initialLeft, runTold, runLeft, owedTold}
 use Rattle.replay.specs.declared.input.Replayed.{Replayed}
-use Rattle.replay.specs.Replayed.{longestNet, arrived?, netLengthIn, early?, standingAfter, withStanding, ranOn, notBegun, replayed, replayLeft}
+use Rattle.replay.specs.Replayed.{longestNet, arrived?, netLengthIn, early?, standingAfter, withStanding, ranOn, replayed, replayLeft}
 
 -- WHERE THE NET ENDS
 
@@ -47,7 +49,7 @@ unfolding standingAfter
 stands-late early number net state standing e h s = rw (sym e ∙ h) s
 
 -- the run, and the standing of the buffer that it left
-pub ran-on : (net state log : List ℕ) (told : Told) (left : List ℕ) (standing : ℕ) → told ≡ runTold net state log → left ≡ runLeft net state log
+pub ran-on : (net state log : List ℕ) (told : RunTold) (left : List ℕ) (standing : ℕ) → told ≡ runTold net state log → left ≡ runLeft net state log
     → standing ≡ standingAfter (told .number) net left → (withStanding told standing ≡ ranOn net state log) × (left ≡ runLeft net state log)
 ran-on net state log told left standing e l s = (rw (s, l, e) refl, l)
 
@@ -55,9 +57,11 @@ ran-on net state log told left standing e l s = (rw (s, l, e) refl, l)
 
 module _ (input state : List ℕ) (n : ℕ) (is : n ≡ netLengthIn input) (v : Verdict) (left : List ℕ)
     (told : v ≡ initialTold (take n input) state) (leaves : left ≡ initialLeft (take n input) state) where
-  pub not-begun : (v .number ≡ 0 → ⊥) → (notBegun v ≡ replayed input state) × (left ≡ replayLeft input state)
+  pub not-begun : (v .number ≡ 0 → ⊥) → (none : Short) → none ≡ nothingShort
+      → (record { number = v .number; index = v .index; done = 0; ticks = 0; standing = 0; short = none } ≡ replayed input state)
+      × (left ≡ replayLeft input state)
   unfolding replayed replayLeft
-  not-begun h = rw (← is, ← told, ne-eqb (v .number) 0 h) (refl, leaves)
+  not-begun h none e = rw (← is, ← told, ne-eqb (v .number) 0 h, e) (refl, leaves)
 
   pub begun : v .number ≡ 0 → (r : Replayed) (left′ : List ℕ)
       → r ≡ ranOn (take n input) left (take (length input - n) (drop n input))

@@ -11,7 +11,7 @@ use borrow.Author.Tests.{lt-ltb, le-ltb, le-leb, lt-leb, ltb-true, ltb-false}
 use Rattle.model.specs.Owed.{Lowest}
 use Rattle.model.proofs.Tab.{both-tell}
 use Rattle.model.proofs.Tests.{leb-tells, ltb-tells}
-use Rattle.model.proofs.Owed.{lowest-is}
+use Rattle.model.proofs.Lowest.{lowest-is}
 use Rattle.replay.specs.declared.input.Replayed.{Replayed}
 use Rattle.replay.specs.Lines.{Opens, FirstPage, cellsShown, runMost, countOf, nextRunning, goes-on?, RunLines}
 use Rattle.replay.specs.Lines.RunLines.{stop, more}

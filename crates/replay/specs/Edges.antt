@@ -11,13 +11,19 @@ use Rattle.replay.specs.Replayed.{longestNet, enough, longestState, repl
 use Rattle.replay.specs.Lines.{resultName, resultFields, marksName, marksFields, Opens, cellsIn, cellsShown, nextRunning, RunLines}
 
 -- the first line that menurun prints, in its order
-abbrev pub result : ℕ → ℕ → ℕ → ℕ → ℕ → Replayed
-result number index done ticks standing =
-    record { number = number; index = index; done = done; ticks = ticks; standing = standing }
+abbrev pub result : ℕ → ℕ → ℕ → ℕ → ℕ → ℕ → ℕ → Replayed
+result number index done ticks standing place lacks = record {
+  number = number;
+  index = index;
+  done = done;
+  ticks = ticks;
+  standing = standing;
+  short = record { place = place; lacks = lacks };
+}
 
 -- refused before the first event
 abbrev pub refusedBy : ℕ → Replayed
-refusedBy number = result number 0 0 0 0
+refusedBy number = result number 0 0 0 0 0 0
 
 -- a log of so many bytes
 abbrev pub log : ℕ → List ℕ → List ℕ
@@ -36,18 +42,21 @@ pub record Edges : Type 0 where
   pub read-enough : enough ≡ 56461
   pub longest-state : longestState ≡ 8328
   -- K1
-  pub whole : replayed (rowNet ++ rowLog) (zeros 30) ≡ result 0 5 5 1 4
+  pub whole : replayed (rowNet ++ rowLog) (zeros 30) ≡ result 0 5 5 1 4 0 0
   pub left : replayLeft (rowNet ++ rowLog) (zeros 30) ≡ atRest
   -- K2, a tick first: the initial state is left, and stands so
-  pub tick-first : replayed (rowNet ++ log 0x07 (0x00 ∷ 0x00 ∷ [])) (zeros 30) ≡ result 18 0 0 0 1
+  pub tick-first : replayed (rowNet ++ log 0x07 (0x00 ∷ 0x00 ∷ [])) (zeros 30) ≡ result 18 0 0 0 1 0 0
   pub tick-left : replayLeft (rowNet ++ log 0x07 (0x00 ∷ 0x00 ∷ [])) (zeros 30) ≡ rowState
   -- K6, start 0, tick, end 0 at age 2: 16, and transition 0 runs at age 1
-  pub no-end : replayed (rowNet ++ log 0x0B (0x01 ∷ 0x00 ∷ 0x00 ∷ 0x00 ∷ 0x41 ∷ 0x02 ∷ [])) (zeros 30) ≡ result 16 2 2 1 3
+  pub no-end : replayed (rowNet ++ log 0x0B (0x01 ∷ 0x00 ∷ 0x00 ∷ 0x00 ∷ 0x41 ∷ 0x02 ∷ [])) (zeros 30) ≡ result 16 2 2 1 3 0 0
   pub end-left : replayLeft (rowNet ++ log 0x0B (0x01 ∷ 0x00 ∷ 0x00 ∷ 0x00 ∷ 0x41 ∷ 0x02 ∷ [])) (zeros 30) ≡ set (set rowState 9 0) 17 1
+  -- start 1 first, which takes 9 tokens: place 1 has none
+  pub short-first : replayed (set rowNet 24 9 ++ log 0x07 (0x02 ∷ 0x00 ∷ [])) (zeros 30) ≡ result 13 0 0 0 1 1 9
+  pub short-left : replayLeft (set rowNet 24 9 ++ log 0x07 (0x02 ∷ 0x00 ∷ [])) (zeros 30) ≡ rowState
   -- a malformed event
-  pub malformed : replayed (rowNet ++ log 0x07 (0x81 ∷ 0x00 ∷ [])) (zeros 30) ≡ result 11 0 0 0 1
+  pub malformed : replayed (rowNet ++ log 0x07 (0x81 ∷ 0x00 ∷ [])) (zeros 30) ≡ result 11 0 0 0 1 0 0
   -- transition 1 has lfd 64
-  pub interval : replayed (set rowNet 22 64 ++ rowLog) (zeros 30) ≡ result 4 1 0 0 0
+  pub interval : replayed (set rowNet 22 64 ++ rowLog) (zeros 30) ≡ result 4 1 0 0 0 0 0
   pub no-room : replayed (rowNet ++ rowLog) (zeros 29) ≡ refusedBy 7
   pub nothing : replayed [] (zeros 30) ≡ refusedBy 1
   pub four-bytes : replayed (take 4 rowNet) (zeros 30) ≡ refusedBy 1
@@ -63,13 +72,13 @@ pub record Edges : Type 0 where
 
 -- LINES, IN ASCII
 
--- result 13 7 2 1 3
+-- result 13 7 2 1 3 6 5
 abbrev pub resultText : List ℕ
-resultText = 114 ∷ 101 ∷ 115 ∷ 117 ∷ 108 ∷ 116 ∷ 32 ∷ 49 ∷ 51 ∷ 32 ∷ 55 ∷ 32 ∷ 50 ∷ 32 ∷ 49 ∷ 32 ∷ 51 ∷ 10 ∷ []
+resultText = 114 ∷ 101 ∷ 115 ∷ 117 ∷ 108 ∷ 116 ∷ 32 ∷ 49 ∷ 51 ∷ 32 ∷ 55 ∷ 32 ∷ 50 ∷ 32 ∷ 49 ∷ 32 ∷ 51 ∷ 32 ∷ 54 ∷ 32 ∷ 53 ∷ 10 ∷ []
 
--- result 10 0 0 0 0
+-- result 10 0 0 0 0 0 0
 abbrev pub earlyText : List ℕ
-earlyText = 114 ∷ 101 ∷ 115 ∷ 117 ∷ 108 ∷ 116 ∷ 32 ∷ 49 ∷ 48 ∷ 32 ∷ 48 ∷ 32 ∷ 48 ∷ 32 ∷ 48 ∷ 32 ∷ 48 ∷ 10 ∷ []
+earlyText = 114 ∷ 101 ∷ 115 ∷ 117 ∷ 108 ∷ 116 ∷ 32 ∷ 49 ∷ 48 ∷ 32 ∷ 48 ∷ 32 ∷ 48 ∷ 32 ∷ 48 ∷ 32 ∷ 48 ∷ 32 ∷ 48 ∷ 32 ∷ 48 ∷ 10 ∷ []
 
 -- marks 0 0 1
 abbrev pub marksText : List ℕ
@@ -89,11 +98,11 @@ twoRunning = set (set (set rowState 21 2) 22 1) 23 44
 
 pub record LineEdges : Type 0 where
   -- each field of the result has its own place
-  pub result-line : Line (zeros 20) 0 resultName (resultFields (result 13 7 2 1 3)) [] (resultText ++ zeros 2) 18
+  pub result-line : Line (zeros 24) 0 resultName (resultFields (result 13 7 2 1 3 6 5)) [] (resultText ++ zeros 2) 22
   pub marks-line : Line (zeros 14) 1 marksName (marksFields atRest) [] (0 ∷ marksText ++ zeros 1) 13
   -- for 10 only the first line, and no count is looked at; else the markings too, and every count
-  pub alone : Opens (zeros 20) (refusedBy 10) rowState (earlyText ++ zeros 2) 18
-  pub both : Opens (zeros 34) (result 13 7 2 1 3) atRest (resultText ++ marksText ++ zeros 4) 30
+  pub alone : Opens (zeros 24) (refusedBy 10) rowState (earlyText ++ zeros 2) 22
+  pub both : Opens (zeros 38) (result 13 7 2 1 3 6 5) atRest (resultText ++ marksText ++ zeros 4) 34
   pub no-cells : cellsShown 10 twoRunning ≡ 0
   pub all-cells : (cellsShown 0 twoRunning ≡ 8) × (cellsShown 11 twoRunning ≡ 8)
   -- transition first, age second; and where the room ends, the cell to come

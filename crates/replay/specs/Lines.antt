@@ -26,7 +26,7 @@ LateShown number state = early? number ≡ false → Shown state
 -- HOW LONG THE LINES ARE AT MOST, by the length of the name and how many numbers there are
 
 abbrev pub resultMost : ℕ
-resultMost = lineMost 6 5
+resultMost = lineMost 6 7
 
 -- a field for each place, and the byte that says how many there are is at most 255
 abbrev pub marksMost : ℕ
@@ -39,13 +39,14 @@ runMost = lineMost 3 3
 abbrev pub leastBuffer : ℕ
 leastBuffer = resultMost + marksMost
 
--- THE FIRST LINE: `result`, and number, index, events done, ticks, standing
+-- THE FIRST LINE: `result`, and number, index, events done, ticks, standing, the place that is short, the shortage
 
 abbrev pub resultName : List ℕ
 resultName = 114 ∷ 101 ∷ 115 ∷ 117 ∷ 108 ∷ 116 ∷ []
 
 abbrev pub resultFields : Replayed → List ℕ
-resultFields told = told .number ∷ told .index ∷ told .done ∷ told .ticks ∷ told .standing ∷ []
+resultFields told =
+    told .number ∷ told .index ∷ told .done ∷ told .ticks ∷ told .standing ∷ told .short .place ∷ told .short .lacks ∷ []
 
 -- THE SECOND: `marks`, and the markings, place by place
 

@@ -8,7 +8,8 @@ use lib.ListN.{length, take, drop}
 use Rattle.model.specs.Limits.{placeLimit, transitionLimit, durationLimit, eventLimit}
 use Rattle.forms.specs.Word.{byte, word32}
 use Rattle.forms.specs.Places.{netLength, stateLength, logLength}
-use Rattle.runs.specs.declared.told.Told.{Told}
+use Rattle.model.specs.Answer.{nothingShort}
+use Rattle.runs.specs.declared.told.RunTold.{RunTold}
 use Rattle.engine.specs.declared.answers.Verdict.{Verdict}
 use Rattle.engine.specs.Calls.{initialTold, initialLeft, runTold, runLeft, owedTold}
 use Rattle.replay.specs.declared.input.Replayed.{Replayed}
@@ -55,9 +56,15 @@ early? number = leb 1 number && leb number lastEarly
 unfoldable pub standingAfter : ℕ → List ℕ → List ℕ → ℕ
 standingAfter number net state = cond (early? number) 0 (owedTold net state .standing)
 
-abbrev pub withStanding : Told → ℕ → Replayed
-withStanding told standing =
-    record { number = told .number; index = told .index; done = told .done; ticks = told .ticks; standing = standing }
+abbrev pub withStanding : RunTold → ℕ → Replayed
+withStanding told standing = record {
+  number = told .number;
+  index = told .index;
+  done = told .done;
+  ticks = told .ticks;
+  standing = standing;
+  short = told .short;
+}
 
 -- the log run from a state
 abbrev pub ranOn : List ℕ → List ℕ → List ℕ → Replayed
@@ -66,7 +73,7 @@ ranOn net state log =
 
 -- no initial state could be made
 abbrev pub notBegun : Verdict → Replayed
-notBegun verdict = record { number = verdict .number; index = verdict .index; done = 0; ticks = 0; standing = 0 }
+notBegun verdict = record { number = verdict .number; index = verdict .index; done = 0; ticks = 0; standing = 0; short = nothingShort }
 
 -- there is an initial state, and room for it
 abbrev pub begun? : List ℕ → List ℕ → Bool

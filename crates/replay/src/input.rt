@@ -2,6 +2,7 @@
 use engine::calls;
 use forms::places;
 use forms::words;
+use model::answer::Short;
 ghost use mathlib.Core.Path.{_≡_};
 ghost use Prim.Native.Nat.{_≤_};
 ghost use lib.ListN.{length};
@@ -18,6 +19,7 @@ pub struct Replayed {
     pub done: usize,
     pub ticks: usize,
     pub standing: u8,
+    pub short: Short,
 }
 
 // The net is as many bytes as its length field says. It is empty, and as such refused by 1, where fewer arrived, or where the field
@@ -63,6 +65,7 @@ pub fn replay(input: &[u8], state: &mut [u8]) -> Replayed
             done: 0,
             ticks: 0,
             standing: 0,
+            short: Short::nothing(),
         };
     }
     run_on(&input[..n], state, &input[n..])
@@ -74,12 +77,14 @@ fn run_on(net: &[u8], state: &mut [u8], log: &[u8]) -> Replayed
     ensures { λ _. ⌜ now (state .exit) ≡ runLeft (now (net .entry)) (now (state .entry)) (now (log .entry)) ⌝ }
 {
     let told = calls::run(net, state, log);
+    let short = told.short;
     Replayed {
         number: told.number,
         index: told.index,
         done: told.done,
         ticks: told.ticks,
         standing: standing(told.number, net, state),
+        short: short,
     }
 }
 

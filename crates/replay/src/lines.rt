@@ -32,12 +32,15 @@ pub fn result(out: &mut [u8], told: Replayed) -> usize
     ensures { λ r. ⌜ r ≤ resultMost ⌝ }
     ensures { λ r. ⌜ Line (now (out .entry)) 0 resultName (resultFields told) [] (now (out .exit)) r ⌝ }
 {
+    let short = told.short;
     let numbers = [
         told.number as u64,
         told.index as u64,
         told.done as u64,
         told.ticks as u64,
         told.standing as u64,
+        short.place as u64,
+        short.lacks as u64,
     ];
     line::put_line(out, 0, b"result", &numbers)
 }

@@ -1,23 +1,49 @@
-// What a run or a walk back tells.
+// What a run and what a walk back tells.
 use forms::fault::Fault;
+use model::answer::Short;
 ghost use mathlib.Core.Path.{_≡_};
-ghost use Rattle.runs.specs.Runs.{toldFault};
+ghost use Rattle.runs.specs.Runs.{runFault, walkFault};
 
-// Document 01's number and index; how many events were done or taken back, and how many ticks among them. The index is the event refused; the
-// transition for 4, 5, 6 and 9; how many events stand done where all is accepted; and else 0.
-pub struct Told {
+// Of a run: document 01's number and index, how many events were done, how many of them were ticks, and the place that is short, which 13
+// alone tells. The index is the event refused; the transition for 4, 5, 6 and 9; of an accepted run the number of events; and else 0.
+pub struct RunTold {
+    pub number: u8,
+    pub index: usize,
+    pub done: usize,
+    pub ticks: usize,
+    pub short: Short,
+}
+
+// Of a walk back: number and index, how many events were taken back, and how many of them were ticks. The index of an accepted walk is the
+// number of events that were not taken back.
+pub struct WalkTold {
     pub number: u8,
     pub index: usize,
     pub done: usize,
     pub ticks: usize,
 }
 
-impl Told {
+impl RunTold {
     // Of what a call was given: nothing was done.
-    pub fn unfit(fault: Fault) -> Told
-        ensures { λ r. ⌜ r ≡ toldFault fault ⌝ }
+    pub fn unfit(fault: Fault) -> RunTold
+        ensures { λ r. ⌜ r ≡ runFault fault ⌝ }
     {
-        Told {
+        RunTold {
+            number: fault.number(),
+            index: fault.index(),
+            done: 0,
+            ticks: 0,
+            short: Short::nothing(),
+        }
+    }
+}
+
+impl WalkTold {
+    // Of what a call was given: nothing was done.
+    pub fn unfit(fault: Fault) -> WalkTold
+        ensures { λ r. ⌜ r ≡ walkFault fault ⌝ }
+    {
+        WalkTold {
             number: fault.number(),
             index: fault.index(),
             done: 0,

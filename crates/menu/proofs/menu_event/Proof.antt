@@ -2,23 +2,29 @@
 -- Assumes nothing.
 use mathlib.Core.Path.{refl, ap}
 use borrow.Author.Needs.{needs}
-use Rattle.menu.specs.Fields.{verdictFields}
+use Rattle.menu.specs.Fields.{eventFields}
 use Rattle.menu.proofs.menu_event.Statement.{statement}
 use Rattle.menu.proofs.menu_event.Tie as tie
 
 event-requires : tie.Need-event-requires
 event-requires c κs = search needs
 
-cast-t9 : tie.Need-cast-t9
-cast-t9 c = search needs
+cast-t10 : tie.Need-cast-t10
+cast-t10 c = search needs
+
+cast-t12 : tie.Need-cast-t12
+cast-t12 c = search needs
+
+cast-t13 : tie.Need-cast-t13
+cast-t13 c = search needs
 
 same-length : tie.Need-same-length
 same-length c = search needs
 
 returns : tie.Need-returns
 returns c =
-    let told = c .before .before .before .before .event in
-    (ap verdictFields (told .ensures .0), (told .ensures .1 .0, (told .result, refl, told .ensures .1 .1)))
+    let told = c .before .before .before .before .before .before .before .event in
+    (ap eventFields (told .ensures .0), (told .ensures .1 .0, (told .result, refl, told .ensures .1 .1)))
 
 pub menu-event-spec : {M : Type 1} → statement M
-menu-event-spec = tie.close (tie.spec event-requires cast-t9 same-length returns)
+menu-event-spec = tie.close (tie.spec event-requires cast-t10 cast-t12 cast-t13 same-length returns)

@@ -2,7 +2,7 @@
 -- Assumes nothing.
 use mathlib.Core.Path.{refl, ap}
 use borrow.Author.Needs.{needs}
-use Rattle.menu.specs.Fields.{toldFields}
+use Rattle.menu.specs.Fields.{walkFields}
 use Rattle.menu.proofs.menu_walk.Statement.{statement}
 use Rattle.menu.proofs.menu_walk.Tie as tie
 
@@ -18,7 +18,7 @@ same-length c = search needs
 returns : tie.Need-returns
 returns c =
     let told = c .before .before .before .before .walk in
-    (ap toldFields (told .ensures .0), (told .ensures .1 .0, (told .result, refl, told .ensures .1 .1)))
+    (ap walkFields (told .ensures .0), (told .ensures .1 .0, (told .result, refl, told .ensures .1 .1)))
 
 pub menu-walk-spec : {M : Type 1} → statement M
 menu-walk-spec = tie.close (tie.spec walk-requires cast-t9 same-length returns)

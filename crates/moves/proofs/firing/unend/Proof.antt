@@ -4,6 +4,7 @@ use mathlib.Core.Path.{_≡_, sym, _∙_}
 use mathlib.Core.Bool.{true}
 use Prim.Native.Nat.{ℕ, _+_, _<_}
 use native.Mathlib.Omega.{arith}
+use lib.Dec.{eqb}
 use borrow.Author.Tests.{leb-true}
 use Rattle.model.specs.Limits.{held?, tokenLimit}
 use Rattle.model.specs.Rules.{timely?, covers?}
@@ -13,8 +14,8 @@ use Rattle.forms.specs.Stored.{netOf, stored}
 use Rattle.forms.proofs.States.{places-same}
 use Rattle.forms.proofs.Inside.{count-inside, row-limits, count-limits, outputs-inside}
 use Rattle.owed.proofs.ModelTests.{outputs-right}
-use Rattle.moves.specs.Marking.{covered?}
-use Rattle.moves.proofs.Looked.{took, took-nothing, covered-is}
+use Rattle.owed.specs.Marks.{shortPlace}
+use Rattle.moves.proofs.Looked.{short-some, short-none, took, took-nothing, covered-is}
 use Rattle.moves.proofs.Fired.{known-byte}
 use Rattle.moves.proofs.Ending.{unend-unknown, unend-untimely, unend-short, unend-full, unend-done, young}
 use borrow.Author.Needs.{needs}
@@ -47,7 +48,7 @@ right c =
     (places-same (e .args .net .now) (e .args .shape) (e .pre .net-framed)) (c .outputs-at .ensures)
 
 -- the rules' test of the places is the one that the code makes
-covers : (c : tie.After-outputs-at) → covered? (c .before .before .before .before .before .before .before .before .before .before .before .args .net .now) (c .outputs-at .result) (c .before .before .before .before .before .before .before .before .before .before .before .args .state .now) (c .before .before .before .before .before .before .before .before .before .before .before .args .shape .places) ≡ covers? (netOf (c .before .before .before .before .before .before .before .before .before .before .before .args .net .now)) (stored (c .before .before .before .before .before .before .before .before .before .before .before .args .net .now) (c .before .before .before .before .before .before .before .before .before .before .before .args .state .now)) (netOf (c .before .before .before .before .before .before .before .before .before .before .before .args .net .now) .gives (c .before .before .before .before .before .before .before .before .before .before .before .args .t))
+covers : (c : tie.After-outputs-at) → eqb (shortPlace (c .before .before .before .before .before .before .before .before .before .before .before .args .net .now) (c .outputs-at .result) (c .before .before .before .before .before .before .before .before .before .before .before .args .state .now) (c .before .before .before .before .before .before .before .before .before .before .before .args .shape .places)) (c .before .before .before .before .before .before .before .before .before .before .before .args .shape .places) ≡ covers? (netOf (c .before .before .before .before .before .before .before .before .before .before .before .args .net .now)) (stored (c .before .before .before .before .before .before .before .before .before .before .before .args .net .now) (c .before .before .before .before .before .before .before .before .before .before .before .args .state .now)) (netOf (c .before .before .before .before .before .before .before .before .before .before .before .args .net .now) .gives (c .before .before .before .before .before .before .before .before .before .before .before .args .t))
 covers c =
     let e = c .before .before .before .before .before .before .before .before .before .before .before in
     covered-is (e .args .net .now) (e .args .shape) (e .args .state .now) (e .pre) (c .outputs-at .result) (netOf (e .args .net .now) .gives (e .args .t)) (right c)
@@ -114,12 +115,12 @@ same-length-2 c = search needs
 
 returns-4 : tie.Need-returns-4
 returns-4 c =
-    let e = c .before .before .before .before .before .before .before .before .before .before .before .before .before .before .before .before in
+    let e = c .before .before .before .before .before .before .before .before .before .before .before .before .before .before .before .before .before in
     let net = e .args .net .now in
     let b = e .args .state .now in
-    let at = c .before .before .before .before .before in
-    let tried = c .before .before .before .take in
-    let refused = unend-short net (e .args .shape) b (e .pre) (e .args .t) (e .args .age) (known (c .before .before .before .before .before .before .before .before .before .before .before .before)) (timely (c .before .before .before .before .before .before .before .before .before .before)) (sym (covers at) ∙ failed (tried .ensures .0) (c .if4 .taken)) in
+    let at = c .before .before .before .before .before .before in
+    let tried = c .before .before .before .before .take in
+    let refused = unend-short net (e .args .shape) b (e .pre) (e .args .t) (e .args .age) (known (c .before .before .before .before .before .before .before .before .before .before .before .before .before)) (timely (c .before .before .before .before .before .before .before .before .before .before .before)) (sym (covers at) ∙ short-some net (at .outputs-at .result) b (e .args .shape .places) (tried .result) (tried .ensures .0) (c .if4 .taken)) in
     (refused .0, took-nothing net b (at .outputs-at .result) (e .args .shape .places) (tried .result) _ (tried .ensures .0) (tried .ensures .1) (c .if4 .taken) ∙ refused .1)
 
 column-requires : tie.Need-column-requires
@@ -127,20 +128,20 @@ column-requires c κs = search needs
 
 count-at-requires : tie.Need-count-at-requires
 count-at-requires c κs =
-    let e = c .before .before .before .before .before .before .before .before .before .before .before .before .before .before .before .before .before .before in
-    count-limits (e .args .net .now) (e .args .shape) (e .args .state .now) (e .pre) (e .args .t) (known (c .before .before .before .before .before .before .before .before .before .before .before .before .before .before)) (e .args .age) (c .column .result) (column (c .before .before .before .before .before .before .before .before .before .before .before .before)) (c .column .ensures)
+    let e = c .before .before .before .before .before .before .before .before .before .before .before .before .before .before .before .before .before .before .before in
+    count-limits (e .args .net .now) (e .args .shape) (e .args .state .now) (e .pre) (e .args .t) (known (c .before .before .before .before .before .before .before .before .before .before .before .before .before .before .before)) (e .args .age) (c .column .result) (column (c .before .before .before .before .before .before .before .before .before .before .before .before .before)) (c .column .ensures)
 
 add-write16 : tie.Need-add-write16
 add-write16 c = search needs
 
 write16-requires : tie.Need-write16-requires
 write16-requires c κs =
-    let e = c .before .before .before .before .before .before .before .before .before .before .before .before .before .before .before .before .before .before .before in
+    let e = c .before .before .before .before .before .before .before .before .before .before .before .before .before .before .before .before .before .before .before .before in
     let net = e .args .net .now in
     let b = e .args .state .now in
     let to = c .before .column in (
-      omega (arith, count-inside net (e .args .shape) b (e .pre) (e .args .t) (known (c .before .before .before .before .before .before .before .before .before .before .before .before .before .before .before)) (e .args .age) (to .result) (c .count-at .result) (column (c .before .before .before .before .before .before .before .before .before .before .before .before .before)) (to .ensures) (c .count-at .ensures)),
-      omega (arith, leb-true (c .before .before .before .before .before .before .before .before .before .before .before .count .result + 1) tokenLimit (free (c .before .before .before .before .before .before .before .before .before))),
+      omega (arith, count-inside net (e .args .shape) b (e .pre) (e .args .t) (known (c .before .before .before .before .before .before .before .before .before .before .before .before .before .before .before .before)) (e .args .age) (to .result) (c .count-at .result) (column (c .before .before .before .before .before .before .before .before .before .before .before .before .before .before)) (to .ensures) (c .count-at .ensures)),
+      omega (arith, leb-true (c .before .before .before .before .before .before .before .before .before .before .before .before .count .result + 1) tokenLimit (free (c .before .before .before .before .before .before .before .before .before .before))),
     )
 
 same-length-3 : tie.Need-same-length-3
@@ -148,16 +149,16 @@ same-length-3 c = search needs
 
 returns-5 : tie.Need-returns-5
 returns-5 c =
-    let e = c .before .before .before .before .before .before .before .before .before .before .before .before .before .before .before .before .before .before .before .before .before .before in
+    let e = c .before .before .before .before .before .before .before .before .before .before .before .before .before .before .before .before .before .before .before .before .before .before .before in
     let net = e .args .net .now in
     let b = e .args .state .now in
-    let found = c .before .before .before .before .before .before .before .before .before .before .before .before .before .before .count in
-    let at = c .before .before .before .before .before .before .before .before .before .before .before in
-    let tried = c .before .before .before .before .before .before .before .before .before .take in
+    let found = c .before .before .before .before .before .before .before .before .before .before .before .before .before .before .before .count in
+    let at = c .before .before .before .before .before .before .before .before .before .before .before .before in
+    let tried = c .before .before .before .before .before .before .before .before .before .before .take in
     let to = c .before .before .before .before .column in
     let cell = c .before .before .before .count-at in
-    unend-done net (e .args .shape) b (e .pre) (e .args .t) (e .args .age) (known (c .before .before .before .before .before .before .before .before .before .before .before .before .before .before .before .before .before .before)) (timely (c .before .before .before .before .before .before .before .before .before .before .before .before .before .before .before .before)) (found .result) (found .ensures .0) (at .outputs-at .result) (right at)
-    (small (c .before .before .before .before .before .before .before .before .before .before .before .before .before .before .before .before .before .before .before .before)) (to .result) (cell .result) (to .ensures) (cell .ensures) _ _ (sym (covers at) ∙ passed (tried .ensures .0) (c .before .before .before .before .before .before .if4 .left)) (free (c .before .before .before .before .before .before .before .before .before .before .before .before))
+    unend-done net (e .args .shape) b (e .pre) (e .args .t) (e .args .age) (known (c .before .before .before .before .before .before .before .before .before .before .before .before .before .before .before .before .before .before .before)) (timely (c .before .before .before .before .before .before .before .before .before .before .before .before .before .before .before .before .before)) (found .result) (found .ensures .0) (at .outputs-at .result) (right at)
+    (small (c .before .before .before .before .before .before .before .before .before .before .before .before .before .before .before .before .before .before .before .before .before)) (to .result) (cell .result) (to .ensures) (cell .ensures) _ _ (sym (covers at) ∙ short-none net (at .outputs-at .result) b (e .args .shape .places) (tried .result) (tried .ensures .0) (c .before .before .before .before .before .before .if4 .left)) (free (c .before .before .before .before .before .before .before .before .before .before .before .before .before))
     (took net b (at .outputs-at .result) (e .args .shape .places) (tried .result) _ (tried .ensures .0) (tried .ensures .1) (c .before .before .before .before .before .before .if4 .left)) (c .before .before .write16 .ensures)
 
 pub unend-spec : {M : Type 1} → statement M

@@ -16,7 +16,7 @@ use Rattle.owed.proofs.starts.no_start_owed.Statement.{statement}
 use Rattle.owed.proofs.starts.no_start_owed.Tie as tie
 
 abbrev idle : List ℕ → List ℕ → ℕ → Bool
-idle net state t = not (enabled? (netOf net) (stored net state) t 1)
+idle net state t = not (enabled? (netOf net) (stored net state) t)
 
 abbrev Inv-loop : tie.InvT-loop
 Inv-loop net shape state transitions t₀ t = (t ≤ shape .transitions) × (all t (idle net state) ≡ true)

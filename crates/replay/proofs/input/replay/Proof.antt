@@ -18,15 +18,20 @@ slice-aggregate-initial c =
 initial-requires : tie.Need-initial-requires
 initial-requires c κs = search needs
 
+nothing-requires : tie.Need-nothing-requires
+nothing-requires c κs = search needs
+
 same-length : tie.Need-same-length
 same-length c = search needs
 
 returns : tie.Need-returns
 returns c =
-    let a = c .before .before .before .before .before .before .before .before .before .before .args in
-    let i = c .before .before .before .before .initial in
-    let n = c .before .before .before .before .before .before .before .net-length in
-    not-begun (a .input .now) (a .state .now) (n .result) (n .ensures .0) (i .result) (i .last .1 .0) (i .ensures .0) (i .ensures .1 .0) (c .if1 .taken)
+    let e = c .before in
+    let a = e .before .before .before .before .before .before .before .before .before .before .args in
+    let i = e .before .before .before .before .initial in
+    let n = e .before .before .before .before .before .before .before .net-length in
+    not-begun (a .input .now) (a .state .now) (n .result) (n .ensures .0) (i .result) (i .last .1 .0) (i .ensures .0) (i .ensures .1 .0) (e .if1 .taken)
+    (c .nothing .result) (c .nothing .ensures)
 
 slice-aggregate-run-on : tie.Need-slice-aggregate-run-on
 slice-aggregate-run-on c =
@@ -65,7 +70,7 @@ replay-spec =
     net-length-requires
     slice-aggregate-initial
     initial-requires
-    same-length
+    nothing-requires same-length
     returns
     slice-aggregate-run-on
     sub-run-on

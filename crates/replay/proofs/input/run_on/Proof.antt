@@ -16,8 +16,8 @@ same-length c = search needs
 
 returns : tie.Need-returns
 returns c =
-    let a = c .before .before .before .before .before .before .before .before .before .args in
-    let r = c .before .before .before .before .run in
+    let a = c .before .before .before .before .before .before .before .before .before .before .args in
+    let r = c .before .before .before .before .before .run in
     ran-on (a .net .now) (a .state .now) (a .log .now) (r .result) (r .last .1 .0) (c .standing .result)
     (r .ensures .0) (r .ensures .1 .0) (c .standing .ensures)
 

@@ -1,8 +1,8 @@
 -- `told::Told::unfit` meets its contract: number and index are the fault's.
 -- Assumes nothing.
 use borrow.Author.Needs.{needs}
-use Rattle.runs.proofs.told.Told.unfit.Statement.{statement}
-use Rattle.runs.proofs.told.Told.unfit.Tie as tie
+use Rattle.runs.proofs.told.WalkTold.unfit.Statement.{statement}
+use Rattle.runs.proofs.told.WalkTold.unfit.Tie as tie
 
 number-requires : tie.Need-number-requires
 number-requires c κs = search needs
