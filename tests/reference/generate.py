@@ -2,7 +2,8 @@
 """A seeded stream of requests for `menuask`: lawful, nearly lawful, damaged, at every limit.
 
 usage: generate.py SEED COUNT [--bad-end]    writes COUNT requests, and with --bad-end a bad one last
-       generate.py SEED COUNT --census       counts the reference's answers instead, by number and call
+       generate.py SEED COUNT --census       counts the reference's answers instead, by number and call, and those
+                                             of 13 by what its place and shortage tell apart
        generate.py --menurun SEED N DIR      writes N inputs of `menurun` as files of that folder
 """
 
@@ -85,6 +86,16 @@ def limit_requests(rng):
     else:
         pairs = [pair] * rng.randint(1, 3)
         yield "walk", [stored(net), buffer_of(rng, net, state), material.encode_log(pairs), len(pairs)]
+
+
+def short_requests(rng):
+    """A start that lacks tokens, alone or behind accepted starts."""
+    if rng.random() < 0.5:
+        net, state, t = material.short_start(rng)
+        yield "event", [stored(net), buffer_of(rng, net, state), 1 + t, 0]
+    else:
+        net, begin, pairs = material.short_log(rng)
+        yield "run", [stored(net), buffer_of(rng, net, begin), material.encode_log(pairs)]
 
 
 def tick_requests(rng):
@@ -285,11 +296,12 @@ def flipped_requests(rng):
 
 
 SCENARIOS = (
-    (net_requests, 9),
+    (net_requests, 10.5),
     (initial_requests, 4),
     (state_requests, 6),
     (event_requests, 10),
-    (limit_requests, 10),
+    (limit_requests, 14),
+    (short_requests, 6.5),
     (tick_requests, 6),
     (back_requests, 8),
     (degree_requests, 4),
@@ -431,7 +443,10 @@ def bad_requests(rng):
 
 
 def menurun_input(rng):
-    """A net and a log behind it; some damaged, too short or too long."""
+    """A net and a log behind it; some damaged, too short or too long, some with a start that lacks tokens."""
+    if rng.random() < 0.12:
+        net, begin, pairs = material.short_log(rng)
+        return stored(net._replace(marking=begin.marking)) + material.encode_log(pairs)
     net = material.full_net(rng) if rng.random() < 0.02 else material.any_net(rng)
     begin = reference.initial_state(net)
     pairs, _ = material.accepted_walk(rng, net, begin, rng.choice([3, 12, 40, 110]))
@@ -476,22 +491,70 @@ def write_menurun_inputs(seed, count, folder):
             file.write(menurun_input(rng))
 
 
-# ---- the program
+# ---- what was made
+
+
+def refused_start(name, arguments):
+    """Of a request that is told 13: the net, the state where it begins, the one at the refused start, its transition."""
+    net = reference.read_net(arguments[0])
+    begin = reference.read_state(net, arguments[1])
+    if name == "event":
+        return net, begin, begin, arguments[2] - 1
+    buffer = bytearray(arguments[1])
+    index = reference.run(arguments[0], buffer, arguments[2])[1]
+    first, _ = reference.read_log(arguments[2])[index]
+    return net, begin, reference.read_state(net, buffer), first - 1
+
+
+def short_kinds(net, begin, state, t):
+    """What the place and the shortage that are told of this start would tell apart."""
+    weights = net.transitions[t].inputs
+    lacking = [(p, weight - tokens) for p, (weight, tokens) in enumerate(zip(weights, state.marking)) if tokens < weight]
+    lowest, shortage = lacking[0]
+    shortages = {lack for _, lack in lacking}
+    return {
+        "in all": True,
+        "the place is not place 0": lowest > 0,
+        "the place is place 63": lowest == 63,
+        "a lower place has just its weight": any(0 < w == state.marking[p] for p, w in enumerate(weights[:lowest])),
+        "a lower place is empty, its weight 0": any(0 == w == state.marking[p] for p, w in enumerate(weights[:lowest])),
+        "several places lack": len(lacking) > 1,
+        "several places lack, not all alike": len(shortages) > 1,
+        "a higher place lacks more": shortage < max(shortages),
+        "a higher place lacks less": shortage > min(shortages),
+        "the shortage is 1": shortage == 1,
+        "the shortage is 255": shortage == 255,
+        "the shortage is between": 1 < shortage < 255,
+        "the count at age 0 is full": state.counts[t][0] == reference.MAX_TOKENS,
+        "accepted events have changed the state": state != begin,
+        "the first state would tell another": reference.short_place(net, begin, t) != lacking[0],
+    }
 
 
 def census(seed, count):
-    """How often each number is told, by call."""
+    """How often each number is told, by call, and 13 by its kinds."""
     names = [name for _, name, _ in wire.TABLE]
     told = collections.Counter()
+    short = collections.Counter()
     size = 0
     for name, arguments in requests(seed, count):
-        told[int(ask.answer(name, arguments).split()[1]), name] += 1
+        number = int(ask.answer(name, arguments).split()[1])
+        told[number, name] += 1
+        if number == 13:
+            kinds = short_kinds(*refused_start(name, arguments))
+            short.update({(kind, name): int(holds) for kind, holds in kinds.items()})
         size += len(wire.encode(name, *arguments))
     print("number  " + "".join(f"{name:>12}" for name in names) + "       total")
     for number in range(24):
         row = [told[number, name] for name in names]
         print(f"{number:6}  " + "".join(f"{value or '.':>12}" for value in row) + f"{sum(row):12}")
     print(f"{count} requests, {size} bytes")
+    print(f"\n{'of 13':44}{'event':>8}{'run':>8}")
+    for kind in dict.fromkeys(kind for kind, _ in short):
+        print(f"{kind:44}{short[kind, 'event']:8}{short[kind, 'run']:8}")
+
+
+# ---- the program
 
 
 def main():

@@ -301,6 +301,43 @@ def end_back_at_limit(rng, net):
     return State(emptied(rng, row.outputs), with_counts(net, counts)), (65 + t, age)
 
 
+def short_row(rng, places):
+    """Input weights, and a marking that lacks tokens for them. The lowest place that
+    lacks any may be every one; those below it may have just their weight, and
+    those above it may lack more or fewer."""
+    lowest = rng.choice([0, rng.randrange(places), places - 1])
+    share = rng.choice([0.4, 0.7, 1])
+    inputs, marking = [], []
+    for p in range(places):
+        weight = rng.choice([1, 2, 3, 254, 255, 255, 255, rng.randint(1, 255)])
+        if p != lowest and rng.random() > share:
+            weight = 0
+        if p == lowest or (p > lowest and weight > 0 and rng.random() < 0.7):
+            tokens = rng.choice([0, 0, weight - 1, rng.randrange(weight)])
+        else:
+            tokens = rng.choice([weight, weight, weight + 1, max(weight, edge_value(rng))])
+        inputs.append(weight)
+        marking.append(tokens)
+    return tuple(inputs), tuple(marking)
+
+
+def short_start(rng):
+    """A net, a state, and a transition that lacks tokens there; its count at age 0 may be full."""
+    places = rng.choice([2, 3, 5, 8, 9, 17, 63, 64, 64, 64, 64, 64])
+    inputs, marking = short_row(rng, places)
+    rows = [
+        Transition(*interval(rng, 2), weights(rng, places, 3), weights(rng, places, 3))
+        for _ in range(rng.choice([0, 0, 1, 2]))
+    ]
+    t = rng.randint(0, len(rows))
+    rows.insert(t, Transition(*interval(rng, 2), inputs, weights(rng, places, 3)))
+    net = Net(marking, tuple(rows))
+    counts = some_counts(rng, net, lambda: rng.choice([1, 2, edge_value(rng)]))
+    if rng.random() < 0.3:
+        counts[t, 0] = MAX_TOKENS
+    return net, State(marking, with_counts(net, counts)), t
+
+
 def reached_state(rng, net, steps):
     return accepted_walk(rng, net, reference.initial_state(net), steps)[1]
 
@@ -392,6 +429,19 @@ def stumbling_walk(rng, net, state, pairs):
     number = rng.choice(sorted(number for number in by_number if number))
     place, pair = rng.choice(by_number[number])
     return pairs[:place] + [pair] + pairs[place : place + rng.choice([0, 1, len(pairs)])]
+
+
+def short_log(rng):
+    """A net, a state to begin at, and events: starts that are permitted, then one
+    that lacks tokens, as a rule because of these, and at times more behind it."""
+    net, state, t = short_start(rng)
+    u = rng.choice([t, t, rng.randrange(len(net.transitions))])
+    n = rng.randint(0, 4)
+    held = zip(state.marking, net.transitions[u].inputs)
+    marking = tuple(min(MAX_TOKENS, tokens + n * weight) for tokens, weight in held)
+    counts = reference.with_count(state.counts, u, 0, -min(n, state.counts[u][0]))
+    behind = rng.choice([[], [], [(1 + t, 0)], [(65 + t, 0), (1 + t, 0)], [(0, 0)]])
+    return net, State(marking, counts), [(1 + u, 0)] * n + [(1 + t, 0)] + behind
 
 
 def any_pair(rng, net, state):

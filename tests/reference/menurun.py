@@ -25,21 +25,21 @@ def output(data):
     """The whole output, with the end of each line."""
     parts = split(data)
     if parts is None:
-        return "result 1 0 0 0 0\n"
+        return "result 1 0 0 0 0 0 0\n"
     net_bytes, log = parts
     number, index = reference.check_net(net_bytes)
     if number:
-        return f"result {number} {index} 0 0 0\n"
+        return f"result {number} {index} 0 0 0 0 0\n"
     net = reference.read_net(net_bytes)
     buffer = bytearray(reference.state_length(net))
     reference.initial(net_bytes, buffer)
-    number, index, done, ticks = reference.run(net_bytes, buffer, log)
+    number, index, done, ticks, place, shortage = reference.run(net_bytes, buffer, log)
     if 1 <= number <= 10:
-        return f"result {number} {index} 0 0 0\n"
+        return f"result {number} {index} 0 0 0 0 0\n"
     standing = reference.owed(net_bytes, buffer)[-1]
     state = reference.read_state(net, buffer)
     lines = [
-        f"result {number} {index} {done} {ticks} {standing}",
+        f"result {number} {index} {done} {ticks} {standing} {place} {shortage}",
         " ".join(["marks", *map(str, state.marking)]),
     ]
     for t, row in enumerate(state.counts):
