@@ -37,8 +37,9 @@ static void answer_request(uint8_t *slice[3], const size_t size[3], size_t n, in
     uint8_t *before = malloc(size[1] + 1), *left = malloc(size[1] + 1);
     memcpy(before, slice[1], size[1]);
     agree("a request", &c, before, left);
-    printf("%s %" PRIu64 " %" PRIu64 " %" PRIu64 " %" PRIu64 " ", walk ? "walk" : "run", c.answer[0], c.answer[1], c.answer[2],
-           c.answer[3]);
+    printf(walk ? "walk " : "run ");
+    for (size_t i = 0; i < fields(&c); i++)
+        printf("%" PRIu64 " ", c.answer[i]);
     for (size_t i = 0; i < size[1]; i++)
         printf("%02x", slice[1][i]);
     puts(size[1] ? "" : "-");

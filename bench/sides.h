@@ -10,14 +10,17 @@ typedef enum { ENGINE, BASELINE, INPLACE, NOTHING } Side;
 
 extern const char *const side_names[NOTHING + 1];
 
-// One call. A run asks for no number of events; n is told for a walk alone.
+// One call. A run asks for no number of events; n is told for a walk alone. A walk tells the first four fields of the answer.
 typedef struct {
     int walk;
     const uint8_t *net, *log;
     uint8_t *state;
     size_t net_len, state_len, log_len, n;
-    uint64_t answer[4];
+    uint64_t answer[6];
 } Call;
+
+// How many fields the call tells.
+size_t fields(const Call *c);
 
 void call(Side side, Call *c);
 

@@ -2,7 +2,7 @@
  * The calls of the menu engine, for C (C99 and later) and C++.
  *
  * Link with libmenu.a, which is compiled for x86-64 Linux. The functions are proved: whatever bytes it is given, each answers and
- * writes exactly what the scope of the build (document 01) says, and ends. What a caller needs of that document stands here;
+ * writes exactly what the scope of the build (document 01, with request W1) says, and ends. What a caller needs of it stands here;
  * docs/C.md is a page on how to use the functions.
  *
  * STORED FORMS. All numbers are big-endian. Each form begins with a version byte, 1, and the length of the whole form in 4 bytes.
@@ -48,7 +48,11 @@
  * - Refused by another number: the state that stood when the refused event had its turn, to be done or to be taken back.
  *
  * In a refused answer all fields are 0, except `number`, `index` where it is a transition (4, 5, 6, 9) or the event that a run or a
- * walk stopped at, and, of a run or a walk that stopped at an event, `done` and `ticks`, which tell how far it came.
+ * walk stopped at, of a run or a walk that stopped at an event `done` and `ticks`, which tell how far it came, and, with 13, `place`
+ * and `shortage` of an event or a run.
+ *
+ * 13 refuses a start for want of tokens. `place` is then the lowest place that held fewer tokens than the input weight, and `shortage`
+ * how many it lacked, the weight minus the tokens: 1 to 255. The place may be 0. With every other number, 0 too, both fields are 0.
  *
  * A long log may be run in portions, each a log with its own head, run from the state that the one before left, until one is
  * refused. That ends as a run of the whole does; but each portion's answer counts from its own front.
@@ -70,6 +74,21 @@
 #ifdef __cplusplus
 extern "C" {
 #endif
+
+/*
+ * THE INTERFACE has a number. It is one higher in each version of this header that changes a struct, a function or a number. A header
+ * without MENU_INTERFACE is interface 1. A program that names the interface it is written for is not compiled with another:
+ *
+ *     #include "menu.h"
+ *     #if MENU_INTERFACE != 2
+ *     #error "this program is written for interface 2 of menu.h"
+ *     #endif
+ *
+ * Take header and library from one version. The linker does not see that a library is of another interface, and such a library may
+ * write more fields than the answer has.
+ */
+
+#define MENU_INTERFACE 2
 
 /* LIMITS */
 
@@ -117,7 +136,8 @@ enum menu_number {
     /* an event */
     MENU_MALFORMED = 11,           /* first byte 129 to 255, or second byte not 0 for a tick or a start */
     MENU_NO_SUCH_TRANSITION = 12,  /* transition not below T */
-    MENU_NOT_ENABLED = 13,         /* start: some place has fewer tokens than the input weight */
+    MENU_NOT_ENABLED = 13,         /* start: some place has fewer tokens than the input weight; `place` is the lowest such place, and
+                                      `shortage` the weight minus its tokens. This number alone tells the two */
     MENU_COUNT_FULL = 14,          /* start: the count at age 0 is 65,535 */
     MENU_OUTSIDE_INTERVAL = 15,    /* end: the age is below sfd or above lfd */
     MENU_NONE_OF_THAT_AGE = 16,    /* end: no firing of that age runs */
@@ -141,10 +161,19 @@ enum menu_standing {
 
 /* ANSWERS. The library writes the fields as one array of numbers, so their type and their order are fixed. */
 
+/* of menu_check_net, menu_initial, menu_check_state and menu_back */
 typedef struct menu_verdict {
     uint64_t number;
     uint64_t index;
 } menu_verdict;
+
+/* of menu_event */
+typedef struct menu_event_told {
+    uint64_t number;
+    uint64_t index;
+    uint64_t place;                /* with 13 the lowest place that lacks tokens, and else 0 */
+    uint64_t shortage;             /* with 13 how many it lacks, and else 0 */
+} menu_event_told;
 
 typedef struct menu_degree_told {
     uint64_t number;
@@ -164,11 +193,22 @@ typedef struct menu_owed_told {
     uint64_t standing;             /* enum menu_standing */
 } menu_owed_told;
 
+/* of menu_run */
+typedef struct menu_run_told {
+    uint64_t number;
+    uint64_t index;                /* the event refused, counted from 0; or, where all is accepted, how many events the log has */
+    uint64_t done;                 /* events done */
+    uint64_t ticks;                /* ticks among those */
+    uint64_t place;                /* with 13 the lowest place that lacked tokens for the start refused, and else 0 */
+    uint64_t shortage;             /* with 13 how many it lacked, and else 0 */
+} menu_run_told;
+
+/* of menu_walk */
 typedef struct menu_told {
     uint64_t number;
     uint64_t index;                /* the event refused, counted from the log's front; or, where all is accepted, how many events
-                                      stand done: all of a run's, and those that a walk did not take back */
-    uint64_t done;                 /* events done or taken back */
+                                      were not taken back */
+    uint64_t done;                 /* events taken back */
     uint64_t ticks;                /* ticks among those */
 } menu_told;
 
@@ -192,7 +232,7 @@ void menu_check_state(const uint8_t *net, size_t net_length, const uint8_t *stat
 
 /* Does one event, given by its two bytes. Tells 0 to 6, 8, 9, 11 to 20. */
 void menu_event(const uint8_t *net, size_t net_length, uint8_t *state, size_t state_length, uint8_t first, uint8_t second,
-                menu_verdict *answer);
+                menu_event_told *answer);
 
 /* Takes one event back: leaves the only state that leads here by it. Tells 0 to 6, 8, 9, 11, 12, 21. */
 void menu_back(const uint8_t *net, size_t net_length, uint8_t *state, size_t state_length, uint8_t first, uint8_t second,
@@ -207,7 +247,7 @@ void menu_owed(const uint8_t *net, size_t net_length, const uint8_t *state, size
 
 /* Runs a log from a state, and stops at the first event that is refused. Tells 0 to 6, 8 to 20. */
 void menu_run(const uint8_t *net, size_t net_length, uint8_t *state, size_t state_length, const uint8_t *log, size_t log_length,
-              menu_told *answer);
+              menu_run_told *answer);
 
 /* Takes the last n events of a log back, the last one first, and stops at the first that cannot be. Tells 0 to 6, 8 to 12, 21, 22. */
 void menu_walk(const uint8_t *net, size_t net_length, uint8_t *state, size_t state_length, const uint8_t *log, size_t log_length,

@@ -8,6 +8,9 @@
 #include <stdlib.h>
 
 #include "menu.h"
+#if MENU_INTERFACE != 2
+#error "this program is written for interface 2 of menu.h"
+#endif
 
 typedef struct slice {
     uint8_t *bytes;
@@ -100,7 +103,7 @@ static void answer_state(void)
 
 static void answer_event(void)
 {
-    menu_verdict told;
+    menu_event_told told;
     uint8_t first = read_byte(), second = read_byte();
 
     menu_event(net.bytes, net.length, state.bytes, state.length, first, second, &told);
@@ -136,7 +139,7 @@ static void answer_owed(void)
 
 static void answer_run(void)
 {
-    menu_told told;
+    menu_run_told told;
 
     read_slice(&events);
     menu_run(net.bytes, net.length, state.bytes, state.length, events.bytes, events.length, &told);

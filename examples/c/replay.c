@@ -4,12 +4,15 @@
  * usage: replay [FILE..]
  *
  * The files are read one behind the other: a net and then its log, in one file or in two. With no file it replays the children's
- * row net of document 01 and its log, and prints `result 0 5 5 1 4` and `marks 0 0 1`.
+ * row net of document 01 and its log, and prints `result 0 5 5 1 4 0 0` and `marks 0 0 1`.
  */
 #include <stdio.h>
 #include <stdlib.h>
 
 #include "menu.h"
+#if MENU_INTERFACE != 2
+#error "this program is written for interface 2 of menu.h"
+#endif
 
 static const uint8_t row_net[] = {
     1, 0, 0, 0, MENU_NET_BYTES(3, 2), 3, 2, /* version, length, three places, two transitions */
@@ -32,10 +35,12 @@ static unsigned word_at(const uint8_t *bytes, size_t at)
     return 256u * bytes[at] + bytes[at + 1];
 }
 
-static void print_result(uint64_t number, uint64_t index, uint64_t done, uint64_t ticks, uint64_t standing)
+/* The first line. The standing is that of the state left, and 0 where there is none. */
+static void print_result(const menu_run_told *told, uint64_t standing)
 {
-    printf("result %llu %llu %llu %llu %llu\n", (unsigned long long)number, (unsigned long long)index, (unsigned long long)done,
-           (unsigned long long)ticks, (unsigned long long)standing);
+    printf("result %llu %llu %llu %llu %llu %llu %llu\n", (unsigned long long)told->number, (unsigned long long)told->index,
+           (unsigned long long)told->done, (unsigned long long)told->ticks, (unsigned long long)standing,
+           (unsigned long long)told->place, (unsigned long long)told->shortage);
 }
 
 /* The markings, and each count above 0. The state is lawful, so its head says where they stand. */
@@ -57,21 +62,23 @@ static void print_state(void)
 static void replay(const uint8_t *net, size_t net_length, const uint8_t *log, size_t log_length)
 {
     menu_verdict begun;
-    menu_told told;
+    menu_run_told told = {0, 0, 0, 0, 0, 0};
     menu_owed_told owed;
 
     menu_initial(net, net_length, state, sizeof state, &begun);
     if (begun.number != MENU_ACCEPTED) {
-        print_result(begun.number, begun.index, 0, 0, 0);
+        told.number = begun.number;
+        told.index = begun.index;
+        print_result(&told, 0);
         return;
     }
     menu_run(net, net_length, state, sizeof state, log, log_length, &told);
     if (told.number == MENU_LOG_FRAME) {
-        print_result(told.number, told.index, 0, 0, 0);
+        print_result(&told, 0);
         return;
     }
     menu_owed(net, net_length, state, sizeof state, &owed);
-    print_result(told.number, told.index, told.done, told.ticks, owed.standing);
+    print_result(&told, owed.standing);
     print_state();
 }
 
