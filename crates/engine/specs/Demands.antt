@@ -74,7 +74,7 @@ pub record EventDone (net b : List ℕ) (first second : ℕ) (r : EventTold) (b�
   -- and the state that the rules give is left
   pub done : (S′ : State) → Moves (netOf net) (stored net b) (eventOf first second) S′
       → (r ≡ saysEvent 0 0 noPlace) × LeavesState net b b′ S′
-  -- each refusal is told exactly when document 01 says
+  -- each refusal is told exactly when document 01 says, with the place that request W1 asks for
   pub refused : (why : Refusal)
       → (r ≡ saysEvent (numberOfRefusal why) 0 (shortOfRefusal why)) ↔ Refuses (netOf net) (stored net b) (eventOf first second) why
   -- so 13 tells a place and a shortage exactly where a start finds that place, the lowest, short of so many tokens

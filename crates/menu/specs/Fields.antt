@@ -1,4 +1,4 @@
--- The numbers that each call tells through the C interface, in the order of document 01: those of the engine's answer, field by field.
+-- The numbers that each call tells through the C interface, in the order of include/menu.h: those of the engine's answer, field by field.
 -- Assumes nothing.
 use mathlib.Core.Path.{_≡_}
 use mathlib.Core.List.{List, [], _∷_}

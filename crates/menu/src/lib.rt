@@ -1,5 +1,5 @@
 // The calls of the engine for programs in C and other languages, as a static library; include/menu.h declares them. A slice is a pointer
-// and a length there. Each function tells its answer in a lent array of numbers, in the order of document 01, so that one form serves
+// and a length there. Each function tells its answer in a lent array of numbers, in the order that it has there, so that one form serves
 // every call and no struct's layout is agreed upon twice. None asks anything of the bytes that it is given, and the last clause of each
 // contract is the engine's promise, of these very numbers and bytes.
 use engine::calls;

@@ -205,10 +205,10 @@ furtherCases =
     -- 11 and 12, done and taken back
     ∷ does childrensRow filled event.Malformed (answers 11 filled)
     ∷ does childrensRow filled (start 2) (answers 12 filled)
-    -- no such transition, though a start of it would find no token: 12 before 13
-    ∷ does slowMiddle idle (start 3) (answers 12 idle)
     ∷ undoes childrensRow filled event.Malformed (undone 11 filled)
     ∷ undoes childrensRow filled (end 2 0) (undone 12 filled)
+    -- no such transition, though a start of it would find no token: 12 before 13
+    ∷ does slowMiddle idle (start 3) (answers 12 idle)
     -- a start taken back, and one that cannot have been: place 0 would have held 65,536
     ∷ undoes childrensRow (state (marks 0 0 0) (ages 1 0 0 0) none) (start 0) (undone 0 (state (marks 1 0 0) none none))
     ∷ undoes childrensRow (state (marks 65535 0 0) (ages 1 0 0 0) none) (start 0) (undone 21 (state (marks 65535 0 0) (ages 1 0 0 0) none))

@@ -22,7 +22,7 @@ TooFew N S t n = (p : ℕ) × (p < N .places) × (tokens S p < n * N .takes t p)
 abbrev pub EnoughWith : Net → State → ℕ → ℕ → ℕ → Type 0
 EnoughWith N S t p k = N .takes t p ≤ tokens S p + k
 
--- the lowest place that has too few tokens for one start of t, and how many it lacks
+-- request W1: the lowest place that has too few tokens for one start of t, and how many it lacks
 pub record Lacks (N : Net) (S : State) (t : ℕ) (short : Short) : Type 0 where
   pub known : short .place < N .places
   pub some : 0 < short .lacks

@@ -14,8 +14,9 @@ pub struct RunTold {
     pub short: Short,
 }
 
-// Of a walk back: number and index, how many events were taken back, and how many of them were ticks. The index of an accepted walk is the
-// number of events that were not taken back.
+// Of a walk back: number and index, how many events were taken back, and how many of them were ticks. The index is the
+// event refused, counted from the log's front; the transition for 4, 5, 6 and 9; of an accepted walk the number of events that were not taken
+// back; and else 0.
 pub struct WalkTold {
     pub number: u8,
     pub index: usize,

@@ -1,4 +1,4 @@
--- `told::Told::unfit` meets its contract: number and index are the fault's.
+-- `told::WalkTold::unfit` meets its contract: number and index are the fault's.
 -- Assumes nothing.
 use borrow.Author.Needs.{needs}
 use Rattle.runs.proofs.told.WalkTold.unfit.Statement.{statement}
