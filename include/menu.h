@@ -85,7 +85,8 @@ extern "C" {
  *     #endif
  *
  * Take header and library from one version. The linker does not see that a library is of another interface, and such a library may
- * write more fields than the answer has.
+ * write more fields than the answer has. So does a call that is lent the answer of another call: C++ refuses that, but a C compiler
+ * may only warn.
  */
 
 #define MENU_INTERFACE 2

@@ -507,7 +507,7 @@ def refused_start(name, arguments):
 
 
 def short_kinds(net, begin, state, t):
-    """What the place and the shortage that are told of this start would tell apart."""
+    """The wrong readings that place and shortage of this start would show."""
     weights = net.transitions[t].inputs
     lacking = [(p, weight - tokens) for p, (weight, tokens) in enumerate(zip(weights, state.marking)) if tokens < weight]
     lowest, shortage = lacking[0]

@@ -303,7 +303,7 @@ def end_back_at_limit(rng, net):
 
 def short_row(rng, places):
     """Input weights, and a marking that lacks tokens for them. The lowest place that
-    lacks any may be every one; those below it may have just their weight, and
+    lacks any may be any of them; those below it may have just their weight, and
     those above it may lack more or fewer."""
     lowest = rng.choice([0, rng.randrange(places), places - 1])
     share = rng.choice([0.4, 0.7, 1])
