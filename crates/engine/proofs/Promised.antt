@@ -48,7 +48,7 @@ adds-two P x y p r b′ (t, l) = (t, (l, rw (t, l) p))
 -- WHAT IS GIVEN
 
 -- by what the examination found
-by-cases : {unfit : Fault → Type 0} {fit : Type 0} {refused : Fault → Type 0} {done : Type 0} (e : Examined)
+pub by-cases : {unfit : Fault → Type 0} {fit : Type 0} {refused : Fault → Type 0} {done : Type 0} (e : Examined)
     → ((why : Fault) → e ≡ examined.Unfit why → unfit why × refused why) → (Passes e → fit × done) → Promise unfit fit refused done
 by-cases (examined.Fit shape) bad good = let (f, d) = good (shape, refl) in Promise.in-form f d
 by-cases (examined.Unfit why) bad good = let (u, r) = bad why refl in Promise.at-fault why u r

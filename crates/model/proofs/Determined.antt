@@ -13,6 +13,10 @@ use Rattle.model.proofs.age.Column.age.Reads as column-age
 use Rattle.model.proofs.age.Column.age.Kinds as column-age-kinds
 use Rattle.model.proofs.event.Event.of.Reads as event-of
 use Rattle.model.proofs.event.Event.of.Kinds as event-of-kinds
+use Rattle.model.proofs.event.Event.first.Reads as event-first
+use Rattle.model.proofs.event.Event.first.Kinds as event-first-kinds
+use Rattle.model.proofs.event.Event.second.Reads as event-second
+use Rattle.model.proofs.event.Event.second.Kinds as event-second-kinds
 use Rattle.model.proofs.answer.Refusal.number.Reads as refusal-number
 use Rattle.model.proofs.answer.Refusal.number.Kinds as refusal-number-kinds
 use Rattle.model.proofs.answer.Answer.number.Reads as answer-number
@@ -56,6 +60,12 @@ column-age-determined κs args x y s s′ p q = p ∙ sym q
 
 pub event-of-determined : Determined 0 event-of-kinds.ps event-of-kinds.r event-of.Learnt
 event-of-determined κs args x y s s′ p q = p ∙ sym q
+
+pub event-first-determined : Determined 0 event-first-kinds.ps event-first-kinds.r event-first.Learnt
+event-first-determined κs args x y s s′ p q = p ∙ sym q
+
+pub event-second-determined : Determined 0 event-second-kinds.ps event-second-kinds.r event-second.Learnt
+event-second-determined κs args x y s s′ p q = p ∙ sym q
 
 pub refusal-number-determined : Determined 0 refusal-number-kinds.ps refusal-number-kinds.r refusal-number.Learnt
 refusal-number-determined κs args x y s s′ p q = p ∙ sym q

@@ -26,11 +26,11 @@ use Rattle.moves.proofs.Undone.{after-stored, back-after-stored}
 -- IN THE MODEL
 
 module _ (N : Net) (S S′ : State) (s : Lawful N S) (k : Ticks N S S′) where
-  still-calm : NoStartOwed N S′
+  pub still-calm : NoStartOwed N S′
   still-calm t h enabled = k .no-start-owed t h (λ p l. omega (arith, enabled p l, k .marked p l))
 
   -- a count that the tick did not move on would stand at its transition's lfd or above
-  still-runs : ¬ NothingRunning N S′
+  pub still-runs : ¬ NothingRunning N S′
   still-runs none = k .running (λ t h j l.
       below-or-past (suc j) (width N)
       (λ inner. sym (k .aged t j h inner) ∙ none t h (suc j) inner)

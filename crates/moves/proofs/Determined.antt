@@ -13,6 +13,8 @@ use Rattle.moves.proofs.marking.take.Reads as take
 use Rattle.moves.proofs.marking.take.Kinds as take-kinds
 use Rattle.moves.proofs.marking.give.Reads as give
 use Rattle.moves.proofs.marking.give.Kinds as give-kinds
+use Rattle.moves.proofs.tick.move_on.Reads as move-on
+use Rattle.moves.proofs.tick.move_on.Kinds as move-on-kinds
 use Rattle.moves.proofs.tick.tick.Reads as tick
 use Rattle.moves.proofs.tick.tick.Kinds as tick-kinds
 use Rattle.moves.proofs.tick.untick.Reads as untick
@@ -51,6 +53,9 @@ give-determined κs args x y s s′ p q = p .0 ∙ sym (q .0)
 
 pub give-leaves : LeavesOne 2 give-kinds.ps give-kinds.r give.Learnt (λ κs s. now (s .1 .1 .0))
 give-leaves κs args x y s s′ p q = p .1 ∙ sym (q .1)
+
+pub move-on-leaves : LeavesOne 2 move-on-kinds.ps move-on-kinds.r move-on.Learnt (λ κs s. now (s .1 .1 .0))
+move-on-leaves κs args x y s s′ p q = p ∙ sym q
 
 pub tick-determined : Determined 2 tick-kinds.ps tick-kinds.r tick.Learnt
 tick-determined κs args x y s s′ p q = p .0 ∙ sym (q .0)

@@ -17,7 +17,7 @@ ghost use Rattle.moves.specs.After.{applied, takenBack, after, Settled};
 
 // Every count moves to the next age. The state is lawful and none stands at its transition's lfd, so the last column is empty and the
 // clock moves as one block.
-fn move_on(net: &[u8], shape: Net, state: &mut [u8])
+pub fn move_on(net: &[u8], shape: Net, state: &mut [u8])
     requires { ⌜ Framed (now net) shape (now state) ⌝ }
     requires { ⌜ no-end-owed? (netOf (now net)) (stored (now net) (now state)) ≡ true ⌝ }
     ensures { λ _. ⌜ now (state .exit) ≡ written (netOf (now (net .entry))) (ticked (netOf (now (net .entry))) (stored (now (net .entry)) (now (state .entry)))) (now (state .entry)) ⌝ }

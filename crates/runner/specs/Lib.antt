@@ -1,0 +1,13 @@
+pub mod Stop
+pub mod Choice
+pub mod Words
+pub mod Page
+pub mod Bound
+pub mod Cases
+pub mod Chosen
+pub mod Logged
+pub mod Call
+pub mod Demands
+pub mod Promised
+pub mod OnBytes
+pub mod Edges
