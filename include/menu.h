@@ -1,9 +1,9 @@
 /*
- * The calls of the menu engine, for C (C99 and later) and C++.
+ * The calls of the menu engine and of its page runner, for C (C99 and later) and C++.
  *
  * Link with libmenu.a, which is compiled for x86-64 Linux. The functions are proved: whatever bytes it is given, each answers and
- * writes exactly what the scope of the build (document 01, with request W1) says, and ends. What a caller needs of it stands here;
- * docs/C.md is a page on how to use the functions.
+ * writes exactly what the scope of the build (document 01, with requests W1 and W2) says, and ends. What a caller needs of it stands
+ * here; docs/C.md is a page on how to use the functions.
  *
  * STORED FORMS. All numbers are big-endian. Each form begins with a version byte, 1, and the length of the whole form in 4 bytes.
  *
@@ -25,25 +25,32 @@
  * marking and begins a firing, of age 0. An end takes away one firing of its transition and age, and the output weights join the
  * marking. A tick makes every firing one tick older. When each is refused is said at numbers 11 to 21.
  *
+ * A PAGE is a log that menu_page writes. It chooses an event, does it, writes it, and goes on: the end of a firing at its lfd, of the
+ * lowest transition that has one; where there is none, the start of the lowest transition that is enabled; where there is none
+ * either, a tick. Where nothing is enabled and nothing is running it stops, at rest. Enum menu_stop has all its stops.
+ *
  * WHAT A CALLER LENDS
  *
  * - Each buffer is a pointer and then its length in bytes. What is wrong with the bytes in it is told by a number; no call
  *   asks that they are checked before.
- * - `net` and `log` are exactly the form: a longer buffer is refused. They are only read.
+ * - `net`, and `log` where it is const, are exactly the form: a longer buffer is refused. They are only read.
  * - `state` may be longer than the state, which stands at its front. The bytes behind it are never written, and
  *   MENU_STATE_BYTES_MAX bytes are enough for every net.
+ * - `log` of menu_page is room, whatever stands in it: MENU_LOG_BYTES(n) bytes are room for n events. It may be longer than
+ *   MENU_LOG_BYTES_MAX, which is as much as is used.
  * - `answer` is one struct of the call's own type, aligned as such. Every call writes all of its fields. The other buffers may
  *   stand at any address.
  * - Pointers are not NULL, and as many bytes as told lie behind them. Where the length is 0 (the data() of an empty std::vector may
  *   be NULL) lend any other address.
- * - `answer`, and `state` where it is not const, overlap no other buffer of the call. While it runs no one else uses these two or
- *   writes the others.
+ * - `answer`, and `state` and `log` where they are not const, overlap no other buffer of the call. While it runs no one else uses
+ *   these or writes the others.
  *
  * WHAT A CALL LEAVES
  *
- * Nothing is written but the answer, and `state` where it is not const. There stands then:
+ * Nothing is written but the answer, and `state` and `log` where they are not const. There stands then:
  *
- * - Accepted (number 0): the state after the event, the log or the walk; of menu_initial, the initial state.
+ * - Accepted (number 0): the state after the event, the log, the walk or the page; of menu_initial, the initial state. In the `log` of
+ *   menu_page its log, also where that has no event; the bytes behind it are as they were.
  * - Refused by 1 to 10 or 22: every byte as it was.
  * - Refused by another number: the state that stood when the refused event had its turn, to be done or to be taken back.
  *
@@ -57,9 +64,15 @@
  * A long log may be run in portions, each a log with its own head, run from the state that the one before left, until one is
  * refused. That ends as a run of the whole does; but each portion's answer counts from its own front.
  *
+ * A page's log is accepted by menu_run from the state that menu_page was lent; it tells as many events and ticks, and leaves the very
+ * bytes that menu_page left. A page too may be made in portions, each from the state that the one before left and with a log of its
+ * own. Where each but the last stopped because its budget was spent, and the last not because its log was full, they are one page with
+ * all these budgets: its events are theirs one behind the other, its ticks theirs added up, its stop the last one's, its state the one
+ * that is left. That page's log must have room for these events and, with stops 4 and 5, for one more.
+ *
  * The functions keep nothing from one call to the next, have no data that is written, use no heap and do no input or output. A call
- * takes less than 512 bytes of stack. So threads and signal handlers may call them at any time, each with a state and an answer of
- * its own.
+ * takes less than 512 bytes of stack. So threads and signal handlers may call them at any time, each with a state, an answer and, for
+ * menu_page, a log of its own.
  */
 #ifndef MENU_H
 #define MENU_H
@@ -80,8 +93,8 @@ extern "C" {
  * without MENU_INTERFACE is interface 1. A program that names the interface it is written for is not compiled with another:
  *
  *     #include "menu.h"
- *     #if MENU_INTERFACE != 2
- *     #error "this program is written for interface 2 of menu.h"
+ *     #if MENU_INTERFACE != 3
+ *     #error "this program is written for interface 3 of menu.h"
  *     #endif
  *
  * Take header and library from one version. The linker does not see that a library is of another interface, and such a library may
@@ -89,7 +102,7 @@ extern "C" {
  * may only warn.
  */
 
-#define MENU_INTERFACE 2
+#define MENU_INTERFACE 3
 
 /* LIMITS */
 
@@ -116,8 +129,9 @@ extern "C" {
 #define MENU_END(t) ((uint8_t)(65 + (t)))
 
 /*
- * NUMBERS, the field `number` of each answer. Of several faults the first is told: of the net, the room, the state, the log, the
- * request, and then event by event. `index` is the transition for 4, 5, 6 and 9, and otherwise 0 but for a run and a walk.
+ * NUMBERS, the field `number` of each answer. Of several faults the first is told: of the net, the room for an initial state, the
+ * state, the log or the room for it, the request, and then event by event. `index` is the transition for 4, 5, 6 and 9, and otherwise
+ * 0 but for a run and a walk.
  */
 enum menu_number {
     MENU_ACCEPTED = 0,
@@ -133,7 +147,8 @@ enum menu_number {
     MENU_STATE_FRAME = 8,          /* under 8 bytes, wrong version, length, P, T or D, or length beyond the buffer */
     MENU_PAST_LFD = 9,             /* a count above its transition's lfd */
     /* the log */
-    MENU_LOG_FRAME = 10,           /* under 5 or over 48,005 bytes, version not 1, length not the buffer's, or half an event */
+    MENU_LOG_FRAME = 10,           /* under 5 or over 48,005 bytes, version not 1, length not the buffer's, or half an event; of
+                                      menu_page, which asks for room alone: under 5 bytes */
     /* an event */
     MENU_MALFORMED = 11,           /* first byte 129 to 255, or second byte not 0 for a tick or a start */
     MENU_NO_SUCH_TRANSITION = 12,  /* transition not below T */
@@ -158,6 +173,15 @@ enum menu_standing {
     MENU_END_OWED = 2,             /* a firing is at its lfd */
     MENU_FREE_TO_TICK = 3,         /* running and free to tick */
     MENU_AT_REST = 4               /* nothing is enabled and nothing is running */
+};
+
+/* STOPS, the field `stop` of a page: the first that holds. It is 0 where the page is refused. */
+enum menu_stop {
+    MENU_STOP_AT_REST = 1,         /* nothing is enabled and nothing is running */
+    MENU_STOP_BUDGET_SPENT = 2,    /* as many events are done as the budget has */
+    MENU_STOP_LOG_FULL = 3,        /* the buffer has no room for another event, or the log has 24,000 */
+    MENU_STOP_COUNT_FULL = 4,      /* the start that is chosen would be refused by 14 */
+    MENU_STOP_PLACE_FULL = 5       /* the end that is chosen would be refused by 17 */
 };
 
 /* ANSWERS. The library writes the fields as one array of numbers, so their type and their order are fixed. */
@@ -220,6 +244,15 @@ typedef struct menu_step_told {
     uint64_t length;               /* its bytes, two for each event */
 } menu_step_told;
 
+/* of menu_page */
+typedef struct menu_page_told {
+    uint64_t number;
+    uint64_t index;
+    uint64_t stop;                 /* enum menu_stop */
+    uint64_t events;               /* events done: where number is 0, the log that is written has MENU_LOG_BYTES(events) bytes */
+    uint64_t ticks;                /* ticks among those */
+} menu_page_told;
+
 /* CALLS */
 
 /* Checks a net. Tells 0 to 6. */
@@ -257,6 +290,10 @@ void menu_walk(const uint8_t *net, size_t net_length, uint8_t *state, size_t sta
 /* Where step k of a log stands in it: the events after the k-th tick and before the next one. Step 0 comes before the first tick,
  * and a log with n ticks has n + 1 steps. Whether the events are well formed is not asked. Tells 0, 10, 23. */
 void menu_step(const uint8_t *log, size_t log_length, size_t k, menu_step_told *answer);
+
+/* Makes a page of at most `budget` events from a state, and writes its log at the front of `log`. Tells 0 to 6, 8 to 10. */
+void menu_page(const uint8_t *net, size_t net_length, uint8_t *state, size_t state_length, uint8_t *log, size_t log_length,
+               size_t budget, menu_page_told *answer);
 
 #ifdef __cplusplus
 }

@@ -24,6 +24,8 @@ use Rattle.menu.proofs.menu_walk.Reads as walk
 use Rattle.menu.proofs.menu_walk.Kinds as walk-kinds
 use Rattle.menu.proofs.menu_step.Reads as step
 use Rattle.menu.proofs.menu_step.Kinds as step-kinds
+use Rattle.menu.proofs.menu_page.Reads as page
+use Rattle.menu.proofs.menu_page.Kinds as page-kinds
 
 pub check-net-tells : LeavesOne 2 check-net-kinds.ps check-net-kinds.r check-net.Learnt (λ κs s. now (s .1 .0))
 check-net-tells κs args x y s s′ p q = p .0 ∙ sym (q .0)
@@ -69,3 +71,12 @@ walk-leaves κs args x y s s′ p q = p .1 .0 ∙ sym (q .1 .0)
 
 pub step-tells : LeavesOne 2 step-kinds.ps step-kinds.r step.Learnt (λ κs s. now (s .1 .1 .0))
 step-tells κs args x y s s′ p q = p .0 ∙ sym (q .0)
+
+pub page-tells : LeavesOne 4 page-kinds.ps page-kinds.r page.Learnt (λ κs s. now (s .1 .1 .1 .1 .0))
+page-tells κs args x y s s′ p q = p .0 ∙ sym (q .0)
+
+pub page-leaves : LeavesOne 4 page-kinds.ps page-kinds.r page.Learnt (λ κs s. now (s .1 .0))
+page-leaves κs args x y s s′ p q = p .1 .0 ∙ sym (q .1 .0)
+
+pub page-leaves-log : LeavesOne 4 page-kinds.ps page-kinds.r page.Learnt (λ κs s. now (s .1 .1 .0))
+page-leaves-log κs args x y s s′ p q = p .1 .1 .0 ∙ sym (q .1 .1 .0)

@@ -5,7 +5,7 @@ use Rattle.model.specs.Tab.{tab, all, largest, least, howMany, lowest, one}
 use Rattle.model.specs.Net.{width, tokens, count, build}
 use Rattle.model.specs.Rules.{lackingPlace, enabled?, short, no-start-owed?, no-end-owed?, nothing-running?, timely?, has-room?, covers?, none-fresh?}
 use Rattle.model.specs.Rules.{older, started, ended, ticked, unstarted, unended, unticked, apply, back, times, degree}
-use Rattle.model.specs.Run.{inTurn, run, walkBack, walk}
+use Rattle.model.specs.Run.{ticksIn, inTurn, run, walkBack, walk}
 use Rattle.model.specs.Owed.{owes-start?, owes-end?, standingOf, owed}
 use Rattle.forms.specs.Word.{word, word32, blank?, setWord, putWords, putRows}
 use Rattle.forms.specs.Places.{rowAt, countAt, stateLength}
@@ -20,13 +20,16 @@ use Rattle.owed.specs.Bits.{wordOf}
 use Rattle.logs.specs.Steps.{startFrom, endFrom}
 use Rattle.engine.specs.Examined.{examineNet, examineState, examineLog}
 use Rattle.engine.specs.Calls.{netTold, stateTold, eventTold, degreeTold, owedTold, runTold, runLeft, walkTold, stepTold}
+use Rattle.runner.specs.Choice.{choice}
+use Rattle.runner.specs.Page.{page}
+use Rattle.runner.specs.Call.{examinePage, pageTold}
 use Rattle.menu.specs.Edges.{Edges}
 
 pub edges : Edges
-unfolding netTold stateTold eventTold degreeTold owedTold runTold runLeft walkTold stepTold examineNet examineState examineLog
+unfolding netTold stateTold eventTold degreeTold owedTold runTold runLeft walkTold stepTold pageTold examinePage examineNet examineState examineLog
     checkNet net-head? checkRow some-weight? checkState has-head? none-past? checkLog is-log? begins? checksInTurn
     netOf stateOf eventsIn word word32 blank? setWord putWords putRows rowAt countAt stateLength written startFrom endFrom wordOf
-    run walk walkBack inTurn owed owes-start? owes-end? standingOf degree times apply back started ended ticked unstarted unended unticked older
+    page choice ticksIn run walk walkBack inTurn owed owes-start? owes-end? standingOf degree times apply back started ended ticked unstarted unended unticked older
     lackingPlace enabled? short no-start-owed? no-end-owed? nothing-running? timely? has-room? covers? none-fresh?
     width tokens count build tab all largest least howMany lowest one
 edges = record {
@@ -47,4 +50,7 @@ edges = record {
   whole-walk = refl;
   step = refl;
   no-step = refl;
+  page = refl;
+  spent-page = refl;
+  no-page = refl;
 }

@@ -4,11 +4,12 @@
 use mathlib.Core.Path.{_≡_}
 use mathlib.Core.List.{List, [], _∷_}
 use Prim.Native.Nat.{ℕ}
-use lib.ListN.{set}
+use lib.ListN.{set, replicate}
 use Rattle.forms.specs.Cases.{rowNet, rowState, rowLog}
 use Rattle.owed.specs.Edges.{spent}
 use Rattle.engine.specs.Calls.{netTold, stateTold, eventTold, degreeTold, owedTold, runTold, runLeft, walkTold, stepTold}
-use Rattle.menu.specs.Fields.{verdictFields, eventFields, degreeFields, owedFields, runFields, walkFields, stepFields}
+use Rattle.runner.specs.Call.{pageTold}
+use Rattle.menu.specs.Fields.{verdictFields, eventFields, degreeFields, owedFields, runFields, walkFields, stepFields, pageFields}
 
 -- what K1 leaves: a token in place 2, and none elsewhere
 abbrev filled : List ℕ
@@ -55,3 +56,7 @@ pub record Edges : Type 0 where
   -- step 1 is six bytes behind nine; there is no step 2
   pub step : stepFields (stepTold rowLog 1) ≡ 0 ∷ 0 ∷ 9 ∷ 6 ∷ []
   pub no-step : stepFields (stepTold rowLog 2) ≡ 23 ∷ 0 ∷ 0 ∷ 0 ∷ []
+  -- seven events, three ticks, at rest; and a buffer for five events, stopped behind the fourth, as many as the budget
+  pub page : pageFields (pageTold rowNet rowState (replicate 19 0) 9) ≡ 0 ∷ 0 ∷ 1 ∷ 7 ∷ 3 ∷ []
+  pub spent-page : pageFields (pageTold rowNet rowState (replicate 15 0) 4) ≡ 0 ∷ 0 ∷ 2 ∷ 4 ∷ 3 ∷ []
+  pub no-page : pageFields (pageTold rowNet overdue (replicate 4 0) 9) ≡ 9 ∷ 1 ∷ 0 ∷ 0 ∷ 0 ∷ []

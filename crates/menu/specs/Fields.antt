@@ -10,6 +10,7 @@ use Rattle.engine.specs.declared.answers.EventTold.{EventTold}
 use Rattle.engine.specs.declared.answers.DegreeTold.{DegreeTold}
 use Rattle.engine.specs.declared.answers.OwedTold.{OwedTold}
 use Rattle.engine.specs.declared.answers.StepTold.{StepTold}
+use Rattle.runner.specs.declared.call.PageTold.{PageTold}
 
 -- these are the numbers of an answer of which P holds
 abbrev pub OfAnswer : {A : Type 0} → (A → List ℕ) → List ℕ → (A → Type 0) → Type 0
@@ -47,3 +48,6 @@ walkFields told = told .number ∷ told .index ∷ told .done ∷ told .ticks �
 
 abbrev pub stepFields : StepTold → List ℕ
 stepFields told = told .number ∷ told .index ∷ told .start ∷ told .length ∷ []
+
+abbrev pub pageFields : PageTold → List ℕ
+pageFields told = told .number ∷ told .index ∷ told .stop ∷ told .events ∷ told .ticks ∷ []

@@ -1,14 +1,17 @@
-// The calls of the engine for programs in C and other languages, as a static library; include/menu.h declares them. A slice is a pointer
+// The calls of the engine and of the page runner for programs in C and other languages, as a static library; include/menu.h declares them. A slice is a pointer
 // and a length there. Each function tells its answer in a lent array of numbers, in the order that it has there, so that one form serves
 // every call and no struct's layout is agreed upon twice. None asks anything of the bytes that it is given, and the last clause of each
-// contract is the engine's promise, of these very numbers and bytes.
+// contract is the call's promise, of these very numbers and bytes.
 use engine::calls;
+use runner::call;
 ghost use mathlib.Core.Path.{_≡_};
 ghost use Rattle.engine.specs.Calls.{netTold, stateTold, initialTold, initialLeft, eventTold, eventLeft, backTold, backLeft};
 ghost use Rattle.engine.specs.Calls.{degreeTold, owedTold, runTold, runLeft, walkTold, walkLeft, stepTold};
 ghost use Rattle.engine.specs.Promised.{CheckNetPromise, CheckStatePromise, InitialPromise, EventPromise, BackPromise};
 ghost use Rattle.engine.specs.Promised.{DegreePromise, OwedPromise, RunPromise, WalkPromise, StepPromise};
-ghost use Rattle.menu.specs.Fields.{OfAnswer, verdictFields, eventFields, degreeFields, owedFields, runFields, walkFields, stepFields};
+ghost use Rattle.runner.specs.Call.{pageTold, stateLeft, logLeft};
+ghost use Rattle.runner.specs.Promised.{PagePromise};
+ghost use Rattle.menu.specs.Fields.{OfAnswer, verdictFields, eventFields, degreeFields, owedFields, runFields, walkFields, stepFields, pageFields};
 
 // Checks a net: 1 to 6.
 #[no_mangle]
@@ -166,5 +169,29 @@ pub extern "C" fn menu_step(log: &[u8], k: usize, answer: &mut [u64; 4])
         told.index as u64,
         told.start as u64,
         told.length as u64,
+    ];
+}
+
+// Builds a page by the net, and writes its log: 1 to 6, 8 to 10.
+#[no_mangle]
+pub extern "C" fn menu_page(
+    net: &[u8],
+    state: &mut [u8],
+    log: &mut [u8],
+    budget: usize,
+    answer: &mut [u64; 5],
+)
+    ensures { λ _. ⌜ now (answer .exit) ≡ pageFields (pageTold (now (net .entry)) (now (state .entry)) (now (log .entry)) budget) ⌝ }
+    ensures { λ _. ⌜ now (state .exit) ≡ stateLeft (now (net .entry)) (now (state .entry)) (now (log .entry)) budget ⌝ }
+    ensures { λ _. ⌜ now (log .exit) ≡ logLeft (now (net .entry)) (now (state .entry)) (now (log .entry)) budget ⌝ }
+    ensures { λ _. ⌜ OfAnswer pageFields (now (answer .exit)) (λ r. PagePromise (now (net .entry)) (now (state .entry)) (now (log .entry)) budget r (now (state .exit)) (now (log .exit))) ⌝ }
+{
+    let told = call::page(net, state, log, budget);
+    *answer = [
+        told.number as u64,
+        told.index as u64,
+        told.stop as u64,
+        told.events as u64,
+        told.ticks as u64,
     ];
 }

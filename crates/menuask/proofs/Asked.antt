@@ -1,8 +1,8 @@
--- A request for an event that is answered has bytes for its two numbers.
+-- A request that is answered is of one of the kinds; and one for an event has bytes for its two numbers.
 -- Assumes nothing.
 use mathlib.Core.Path.{_≡_, refl}
 use mathlib.Core.Bool.{Bool, true, false, _&&_}
-use Prim.Native.Nat.{ℕ, _≤_}
+use Prim.Native.Nat.{ℕ, _+_, _≤_}
 use native.Mathlib.Omega.{arith}
 use lib.Dec.{leb}
 use borrow.Author.Tests.{leb-true}
@@ -11,6 +11,10 @@ use Rattle.menuask.specs.Requests.{within?, asks?}
 both : (a b : Bool) → a && b ≡ true → (a ≡ true) × (b ≡ true)
 both true b e = (refl, e)
 both false b e = let z : _≡_ {A = ℕ} 0 1 = cc in absurd (omega arith)
+
+-- a number that is not the least is above it
+pub past : (least k : ℕ) → least ≤ k → ¬ (k ≡ least) → least + 1 ≤ k
+past least k l n = omega arith
 
 module _ (kind first second : ℕ) (asked : asks? kind first second ≡ true) where
   bytes : within? kind 4 5 ≡ true → (first ≤ 255) × (second ≤ 255)
@@ -25,3 +29,11 @@ module _ (kind first second : ℕ) (asked : asks? kind first second ≡ true) wh
   pub back-bytes : kind ≡ 5 → (first ≤ 255) × (second ≤ 255)
   unfolding within?
   back-bytes e = bytes (rw e refl)
+
+  pub known : (1 ≤ kind) × (kind ≤ 11)
+  unfolding within?
+  known = go (within? kind 4 5) refl
+    where
+      go : (b : Bool) → within? kind 4 5 ≡ b → (1 ≤ kind) × (kind ≤ 11)
+      go true e = let (l, m) = both (leb 4 kind) (leb kind 5) e in (omega (arith, leb-true 4 kind l), omega (arith, leb-true kind 5 m))
+      go false e = let (l, m) = both (leb 1 kind) (leb kind 11) (rw e at asked) in (leb-true 1 kind l, leb-true kind 11 m)

@@ -30,4 +30,7 @@ pub answer-leaves : LeavesOne 4 answer-kinds.ps answer-kinds.r answer.Learnt (λ
 answer-leaves κs args x y s s′ p q = line-once _ _ _ _ _ (now (s .0)) (now (s′ .0)) x y (p .1 .0) (q .1 .0) .0
 
 pub answer-leaves-state : LeavesOne 4 answer-kinds.ps answer-kinds.r answer.Learnt (λ κs s. now (s .1 .1 .1 .1 .1 .0))
-answer-leaves-state κs args x y s s′ p q = p .1 .1 ∙ sym (q .1 .1)
+answer-leaves-state κs args x y s s′ p q = p .1 .1 .0 ∙ sym (q .1 .1 .0)
+
+pub answer-leaves-log : LeavesOne 4 answer-kinds.ps answer-kinds.r answer.Learnt (λ κs s. now (s .1 .1 .1 .1 .1 .1 .0))
+answer-leaves-log κs args x y s s′ p q = p .1 .1 .1 ∙ sym (q .1 .1 .1)

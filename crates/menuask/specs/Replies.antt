@@ -7,7 +7,8 @@ use lib.Dec.{eqb}
 use Rattle.text.specs.Lines.{bufferMost, lineMost, Line}
 use Rattle.engine.specs.Calls.{netTold, stateTold, initialTold, initialLeft, eventTold, eventLeft, backTold, backLeft}
 use Rattle.engine.specs.Calls.{degreeTold, owedTold, runTold, runLeft, walkTold, walkLeft, stepTold}
-use Rattle.menu.specs.Fields.{verdictFields, eventFields, degreeFields, owedFields, runFields, walkFields, stepFields}
+use Rattle.runner.specs.Call.{pageTold, stateLeft, logLeft}
+use Rattle.menu.specs.Fields.{verdictFields, eventFields, degreeFields, owedFields, runFields, walkFields, stepFields, pageFields}
 
 -- the parts of a line
 pub record Reply : Type 0 where
@@ -22,6 +23,10 @@ tells name numbers = record { name = name; numbers = numbers; buffers = [] }
 -- of a call that may write the state's buffer, which is shown as the call leaves it
 abbrev pub shows : List ℕ → List ℕ → List ℕ → Reply
 shows name numbers left = record { name = name; numbers = numbers; buffers = left ∷ [] }
+
+-- and of one that may write the log's buffer too
+abbrev pub showsBoth : List ℕ → List ℕ → List ℕ → List ℕ → Reply
+showsBoth name numbers state log = record { name = name; numbers = numbers; buffers = state ∷ log ∷ [] }
 
 -- THE NAMES, IN ASCII
 
@@ -54,6 +59,9 @@ walkName = 119 ∷ 97 ∷ 108 ∷ 107 ∷ []
 
 abbrev pub stepName : List ℕ
 stepName = 115 ∷ 116 ∷ 101 ∷ 112 ∷ []
+
+abbrev pub pageName : List ℕ
+pageName = 112 ∷ 97 ∷ 103 ∷ 101 ∷ []
 
 -- THE REPLIES
 
@@ -89,7 +97,11 @@ walkReply net state log n = shows walkName (walkFields (walkTold net state log n
 abbrev pub stepReply : List ℕ → ℕ → Reply
 stepReply log k = tells stepName (stepFields (stepTold log k))
 
--- by the byte that a request begins with: 1 to 10, for no other is answered (`asks?` of Requests)
+abbrev pub pageReply : List ℕ → List ℕ → List ℕ → ℕ → Reply
+pageReply net state log budget =
+    showsBoth pageName (pageFields (pageTold net state log budget)) (stateLeft net state log budget) (logLeft net state log budget)
+
+-- by the byte that a request begins with: 1 to 11, for no other is answered (`asks?` of Requests)
 unfoldable pub replyTo : ℕ → ℕ → ℕ → List ℕ → List ℕ → List ℕ → Reply
 replyTo kind first second net state log =
     cond (eqb kind 1) (checkNetReply net)
@@ -101,7 +113,8 @@ replyTo kind first second net state log =
     (cond (eqb kind 7) (owedReply net state)
     (cond (eqb kind 8) (runReply net state log)
     (cond (eqb kind 9) (walkReply net state log first)
-    (stepReply log first)))))))))
+    (cond (eqb kind 10) (stepReply log first)
+    (pageReply net state log first))))))))))
 
 -- what the state's buffer holds afterwards
 unfoldable pub leftBy : ℕ → ℕ → ℕ → List ℕ → List ℕ → List ℕ → List ℕ
@@ -111,7 +124,12 @@ leftBy kind first second net state log =
     (cond (eqb kind 5) (backLeft net state first second)
     (cond (eqb kind 8) (runLeft net state log)
     (cond (eqb kind 9) (walkLeft net state log first)
-    state))))
+    (cond (eqb kind 11) (stateLeft net state log first)
+    state)))))
+
+-- and the log's
+unfoldable pub logBy : ℕ → ℕ → List ℕ → List ℕ → List ℕ → List ℕ
+logBy kind first net state log = cond (eqb kind 11) (logLeft net state log first) log
 
 -- the line of a reply stands at the buffer's front
 abbrev pub Replied : Reply → List ℕ → List ℕ → ℕ → Type 0
@@ -120,3 +138,7 @@ Replied reply before after end = Line before 0 (reply .name) (reply .numbers) (r
 -- no line is longer, where the state's buffer has n bytes: the longest name is `check_state`, and the report of what is owed has nine numbers
 abbrev pub replyMost : ℕ → ℕ
 replyMost n = lineMost 11 9 + bufferMost n
+
+-- and none where the log's buffer is shown too
+abbrev pub bothMost : ℕ → ℕ → ℕ
+bothMost n m = replyMost n + bufferMost m

@@ -1,8 +1,8 @@
 -- What a request has behind its first byte, which says the call (docs/ASK.md).
 -- Assumes nothing.
-use mathlib.Core.Bool.{Bool, _&&_, cond}
+use mathlib.Core.Bool.{Bool, _&&_, _||_, cond}
 use Prim.Native.Nat.{ℕ}
-use lib.Dec.{leb}
+use lib.Dec.{eqb, leb}
 use Rattle.menuask.specs.declared.request.Parts.{Parts}
 
 -- a net or a state of a request has at most so many bytes: more than any lawful one, so that longer ones can be asked about
@@ -17,19 +17,23 @@ logMost = 65536
 unfoldable pub within? : ℕ → ℕ → ℕ → Bool
 within? kind least most = leb least kind && leb kind most
 
+-- or it asks for a page
+unfoldable pub within-or-page? : ℕ → ℕ → ℕ → Bool
+within-or-page? kind least most = eqb kind 11 || within? kind least most
+
 -- two numbers, the bytes of an event; or one: a transition, a number of events, or of a step
 abbrev pub numbersOf : ℕ → ℕ
-numbersOf kind = cond (within? kind 4 5) 2 (cond (within? kind 6 6) 1 (cond (within? kind 9 10) 1 0))
+numbersOf kind = cond (within? kind 4 5) 2 (cond (within? kind 6 6) 1 (cond (within? kind 9 11) 1 0))
 
 -- its slices and numbers, in this order
 abbrev pub partsOf : ℕ → Parts
 partsOf kind = record {
-  net = within? kind 1 9;
-  state = within? kind 2 9;
-  log = within? kind 8 10;
+  net = within-or-page? kind 1 9;
+  state = within-or-page? kind 2 9;
+  log = within? kind 8 11;
   numbers = numbersOf kind;
 }
 
 -- there is such a call, and the bytes of an event are bytes
 abbrev pub asks? : ℕ → ℕ → ℕ → Bool
-asks? kind first second = cond (within? kind 4 5) (leb first 255 && leb second 255) (within? kind 1 10)
+asks? kind first second = cond (within? kind 4 5) (leb first 255 && leb second 255) (within? kind 1 11)

@@ -1,4 +1,4 @@
-// The line of each call: its name, the answer's fields, and for a call that may write, the whole buffer afterwards. The calls are those
+// The line of each call: its name, the answer's fields, and for a call that may write, each buffer that it may write, whole. The calls are those
 // of the C interface, so that the test vectors hold it too.
 use text::line;
 ghost use mathlib.Core.Path.{_≡_};
@@ -6,9 +6,10 @@ ghost use mathlib.Core.Bool.{true};
 ghost use Prim.Native.Nat.{_≤_};
 ghost use lib.ListN.{length};
 ghost use Rattle.engine.specs.Calls.{initialLeft, eventLeft, backLeft, runLeft, walkLeft};
+ghost use Rattle.runner.specs.Call.{stateLeft, logLeft};
 ghost use Rattle.menuask.specs.Requests.{asks?};
 ghost use Rattle.menuask.specs.Replies.{checkNetReply, initialReply, checkStateReply, eventReply, backReply, degreeReply};
-ghost use Rattle.menuask.specs.Replies.{owedReply, runReply, walkReply, stepReply, replyTo, leftBy, Replied, replyMost};
+ghost use Rattle.menuask.specs.Replies.{owedReply, runReply, walkReply, stepReply, pageReply, replyTo, leftBy, logBy, Replied, replyMost, bothMost};
 
 fn check_net(out: &mut [u8], net: &[u8]) -> usize
     requires { ⌜ replyMost 0 ≤ length (now out) ⌝ }
@@ -115,6 +116,18 @@ fn step(out: &mut [u8], log: &[u8], k: usize) -> usize
     line::put_line(out, 0, b"step", &told)
 }
 
+fn page(out: &mut [u8], net: &[u8], state: &mut [u8], log: &mut [u8], budget: usize) -> usize
+    requires { ⌜ bothMost (length (now state)) (length (now log)) ≤ length (now out) ⌝ }
+    ensures { λ r. ⌜ r ≤ length (now (out .exit)) ⌝ }
+    ensures { λ r. ⌜ Replied (pageReply (now (net .entry)) (now (state .entry)) (now (log .entry)) budget) (now (out .entry)) (now (out .exit)) r ⌝ }
+    ensures { λ _. ⌜ now (state .exit) ≡ stateLeft (now (net .entry)) (now (state .entry)) (now (log .entry)) budget ⌝ }
+    ensures { λ _. ⌜ now (log .exit) ≡ logLeft (now (net .entry)) (now (state .entry)) (now (log .entry)) budget ⌝ }
+{
+    let mut told = [0u64; 5];
+    menu::menu_page(net, state, log, budget, &mut told);
+    line::put_line_with_two(out, 0, b"page", &told, state, log)
+}
+
 // The line of a request that asks for some call, at the buffer's front.
 pub fn answer(
     out: &mut [u8],
@@ -123,13 +136,14 @@ pub fn answer(
     second: usize,
     net: &[u8],
     state: &mut [u8],
-    log: &[u8],
+    log: &mut [u8],
 ) -> usize
-    requires { ⌜ replyMost (length (now state)) ≤ length (now out) ⌝ }
+    requires { ⌜ bothMost (length (now state)) (length (now log)) ≤ length (now out) ⌝ }
     requires { ⌜ asks? kind first second ≡ true ⌝ }
     ensures { λ r. ⌜ r ≤ length (now (out .exit)) ⌝ }
     ensures { λ r. ⌜ Replied (replyTo kind first second (now (net .entry)) (now (state .entry)) (now (log .entry))) (now (out .entry)) (now (out .exit)) r ⌝ }
     ensures { λ _. ⌜ now (state .exit) ≡ leftBy kind first second (now (net .entry)) (now (state .entry)) (now (log .entry)) ⌝ }
+    ensures { λ _. ⌜ now (log .exit) ≡ logBy kind first (now (net .entry)) (now (state .entry)) (now (log .entry)) ⌝ }
 {
     match kind {
         1 => check_net(out, net),
@@ -141,6 +155,7 @@ pub fn answer(
         7 => owed(out, net, state),
         8 => run(out, net, state, log),
         9 => walk(out, net, state, log, first),
-        _ => step(out, log, first),
+        10 => step(out, log, first),
+        _ => page(out, net, state, log, first),
     }
 }

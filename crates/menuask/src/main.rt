@@ -9,14 +9,20 @@ ghost use mathlib.Core.Path.{_≡_};
 ghost use Prim.Native.Nat.{_≤_};
 ghost use lib.ListN.{length};
 ghost use Rattle.menuask.specs.Requests.{sliceMost, logMost};
-ghost use Rattle.menuask.specs.Replies.{replyMost};
+ghost use Rattle.menuask.specs.Replies.{bothMost};
 
 // A net or a state of a request has at most so many bytes (docs/ASK.md): more than any lawful one.
 const SLICE_MOST: usize = 16384;
 
+// And a log so many.
+const LOG_MOST: usize = 65536;
+
+// The longest line shows a state's buffer and a log's in hex, behind a name and some numbers.
+const LINE_MOST: usize = 256 + 2 * (SLICE_MOST + LOG_MOST);
+
 // Answers one request, and says whether to go on: not where the input has ended, the request was bad or its line could not be written.
 fn serve(out: &mut [u8], net: &mut [u8], state: &mut [u8], log: &mut [u8]) -> bool
-    requires { ⌜ replyMost sliceMost ≤ length (now out) ⌝ }
+    requires { ⌜ bothMost sliceMost logMost ≤ length (now out) ⌝ }
     requires { ⌜ (length (now net) ≡ sliceMost) × (length (now state) ≡ sliceMost) × (length (now log) ≡ logMost) ⌝ }
 {
     let mut kind = [0u8; 1];
@@ -38,14 +44,14 @@ fn serve(out: &mut [u8], net: &mut [u8], state: &mut [u8], log: &mut [u8]) -> bo
         asked.second,
         &net[..n],
         &mut state[..s],
-        &log[..l],
+        &mut log[..l],
     );
     io::write_all(STDOUT_FILENO, &out[..end])
 }
 
 // A proved loop has to end, and nothing says that the input does. So the loop counts its turns down, from a number that no run uses up.
 fn serve_all(out: &mut [u8], net: &mut [u8], state: &mut [u8], log: &mut [u8])
-    requires { ⌜ replyMost sliceMost ≤ length (now out) ⌝ }
+    requires { ⌜ bothMost sliceMost logMost ≤ length (now out) ⌝ }
     requires { ⌜ (length (now net) ≡ sliceMost) × (length (now state) ≡ sliceMost) × (length (now log) ≡ logMost) ⌝ }
 {
     let mut goes_on = true;
@@ -56,11 +62,10 @@ fn serve_all(out: &mut [u8], net: &mut [u8], state: &mut [u8], log: &mut [u8])
     }
 }
 
-// A log has as many bytes as a large buffer at most, 65,536.
 fn main() {
-    let mut out = io::large_buffer();
+    let mut out = [0u8; LINE_MOST];
     let mut net = [0u8; SLICE_MOST];
     let mut state = [0u8; SLICE_MOST];
-    let mut log = io::large_buffer();
+    let mut log = [0u8; LOG_MOST];
     serve_all(&mut out, &mut net, &mut state, &mut log);
 }

@@ -4,7 +4,7 @@ use libc::STDIN_FILENO;
 ghost use mathlib.Core.Path.{_≡_};
 ghost use mathlib.Core.Bool.{true};
 ghost use Rattle.io.specs.Counts.{Counts};
-ghost use Rattle.menuask.specs.Requests.{within?, numbersOf, partsOf, asks?};
+ghost use Rattle.menuask.specs.Requests.{within?, within-or-page?, numbersOf, partsOf, asks?};
 
 // What a request of some kind has, in this order; `numbers` is how many numbers follow.
 pub struct Parts {
@@ -40,6 +40,16 @@ fn within(kind: u8, least: u8, most: u8) -> bool
     kind <= most
 }
 
+// It is one of these, or asks for a page.
+fn within_or_page(kind: u8, least: u8, most: u8) -> bool
+    ensures { λ r. ⌜ r ≡ within-or-page? kind least most ⌝ }
+{
+    if kind == 11 {
+        return true;
+    }
+    within(kind, least, most)
+}
+
 // How many numbers a request of this kind has: two for an event, one for a transition, a number of events or a step.
 pub fn numbers(kind: u8) -> usize
     ensures { λ r. ⌜ r ≡ numbersOf kind ⌝ }
@@ -50,7 +60,7 @@ pub fn numbers(kind: u8) -> usize
     if within(kind, 6, 6) {
         return 1;
     }
-    if within(kind, 9, 10) {
+    if within(kind, 9, 11) {
         return 1;
     }
     0
@@ -61,9 +71,9 @@ pub fn parts_of(kind: u8) -> Parts
     ensures { λ r. ⌜ r ≡ partsOf kind ⌝ }
 {
     Parts {
-        net: within(kind, 1, 9),
-        state: within(kind, 2, 9),
-        log: within(kind, 8, 10),
+        net: within_or_page(kind, 1, 9),
+        state: within_or_page(kind, 2, 9),
+        log: within(kind, 8, 11),
         numbers: numbers(kind),
     }
 }
@@ -78,7 +88,7 @@ pub fn asks(kind: u8, first: usize, second: usize) -> bool
         }
         return second <= 255;
     }
-    within(kind, 1, 10)
+    within(kind, 1, 11)
 }
 
 // A number of four bytes, where one is asked for.

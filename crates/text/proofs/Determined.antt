@@ -29,6 +29,8 @@ use Rattle.text.proofs.line.put_line.Reads as put-line
 use Rattle.text.proofs.line.put_line.Kinds as put-line-kinds
 use Rattle.text.proofs.line.put_line_with.Reads as put-line-with
 use Rattle.text.proofs.line.put_line_with.Kinds as put-line-with-kinds
+use Rattle.text.proofs.line.put_line_with_two.Reads as put-line-with-two
+use Rattle.text.proofs.line.put_line_with_two.Kinds as put-line-with-two-kinds
 
 -- a number is spelt in one way
 module _ (before : List ℕ) (at n : ℕ) (after after′ : List ℕ) (end end′ : ℕ) (a : Spelt before at n after end) (b : Spelt before at n after′ end′) where
@@ -125,3 +127,9 @@ put-line-with-determined κs args x y s s′ p q = line-once _ _ _ _ _ (now (s .
 
 pub put-line-with-leaves : LeavesOne 4 put-line-with-kinds.ps put-line-with-kinds.r put-line-with.Learnt (λ κs s. now (s .0))
 put-line-with-leaves κs args x y s s′ p q = line-once _ _ _ _ _ (now (s .0)) (now (s′ .0)) x y (p .1) (q .1) .0
+
+pub put-line-with-two-determined : Determined 5 put-line-with-two-kinds.ps put-line-with-two-kinds.r put-line-with-two.Learnt
+put-line-with-two-determined κs args x y s s′ p q = line-once _ _ _ _ _ (now (s .0)) (now (s′ .0)) x y (p .1) (q .1) .1
+
+pub put-line-with-two-leaves : LeavesOne 5 put-line-with-two-kinds.ps put-line-with-two-kinds.r put-line-with-two.Learnt (λ κs s. now (s .0))
+put-line-with-two-leaves κs args x y s s′ p q = line-once _ _ _ _ _ (now (s .0)) (now (s′ .0)) x y (p .1) (q .1) .0

@@ -52,6 +52,17 @@ module _ (before : List ℕ) (at : ℕ) (name ns named : List ℕ) (from : ℕ) 
   line-with bytes shown behind p q g h =
       record { numbered = numbered; last = last; fields = rw (← f, ← e) fields; ended = rw (← p, ← q) h; ends = rw (← p) g }
 
+  pub line-with-two : (one other shown both : List ℕ) (between behind : ℕ) → between ≡ behindBuffer last one → shown ≡ buffered numbered last one
+      → behind ≡ behindBuffer between other → both ≡ buffered shown between other → end ≡ behind + 1 → after ≡ set both behind lineEnd
+      → Line before at name ns (one ∷ other ∷ []) after end
+  line-with-two one other shown both between behind p q r s g h = record {
+    numbered = numbered;
+    last = last;
+    fields = rw (← f, ← e) fields;
+    ended = rw (← p, ← q, ← r, ← s) h;
+    ends = rw (← p, ← r) g;
+  }
+
 -- a buffer as a field: `-`, or its bytes
 module _ (before : List ℕ) (at : ℕ) (bytes : List ℕ) where
   pub no-bytes : length bytes ≡ 0 → (set (set before at space) (at + 1) dash ≡ buffered before at bytes) × (at + 2 ≡ behindBuffer at bytes)

@@ -134,3 +134,23 @@ pub fn put_line_with(out: &mut [u8], at: usize, name: &[u8], numbers: &[u64], by
     let end = put_buffer(out, last, bytes);
     put_byte(out, end, b'\n')
 }
+
+// A line with two buffers behind its numbers.
+pub fn put_line_with_two(
+    out: &mut [u8],
+    at: usize,
+    name: &[u8],
+    numbers: &[u64],
+    one: &[u8],
+    other: &[u8],
+) -> usize
+    requires { ⌜ at + lineMost (length (now name)) (length (now numbers)) + bufferMost (length (now one)) + bufferMost (length (now other)) ≤ length (now out) ⌝ }
+    ensures { λ r. ⌜ r ≤ at + lineMost (length (now (name .entry))) (length (now (numbers .entry))) + bufferMost (length (now (one .entry))) + bufferMost (length (now (other .entry))) ⌝ }
+    ensures { λ r. ⌜ Line (now (out .entry)) at (now (name .entry)) (now (numbers .entry)) (now (one .entry) ∷ now (other .entry) ∷ []) (now (out .exit)) r ⌝ }
+{
+    let named = put_bytes(out, at, name);
+    let last = put_fields(out, named, numbers);
+    let between = put_buffer(out, last, one);
+    let end = put_buffer(out, between, other);
+    put_byte(out, end, b'\n')
+}

@@ -56,8 +56,8 @@ slice-relend-prefix-answer c = search needs
 slice-aggregate-answer-2 : tie.Need-slice-aggregate-answer-2
 slice-aggregate-answer-2 c = c .before .before .before .before .before .before .before .before .before .before .before .read .ensures .1 .0 .1
 
-slice-reshare-prefix-answer-2 : tie.Need-slice-reshare-prefix-answer-2
-slice-reshare-prefix-answer-2 c = search needs
+slice-relend-prefix-answer-2 : tie.Need-slice-relend-prefix-answer-2
+slice-relend-prefix-answer-2 c = search needs
 
 slice-aggregate-answer-3 : tie.Need-slice-aggregate-answer-3
 slice-aggregate-answer-3 c = c .before .before .before .before .before .before .before .before .before .before .before .before .read .ensures .1 .1 .0 .1
@@ -66,14 +66,14 @@ answer-requires : tie.Need-answer-requires
 answer-requires c κs =
     let read = c .before .before .before .before .before .before .before .before .before .before .before .before .read in
     let e = c .before .before .before .before .before .before .before .before .before .before .before .before .before .before .before .before .before .before .before .before .before .before .before .before in
-    (omega (arith, read .ensures .1 .0, read .kept .1 .1 .0, e .pre), read .ensures .1 .1 .1 (passed refl (c .before .before .before .before .if2 .left)))
+    (omega (arith, read .ensures .1 .0, read .kept .1 .1 .0, read .ensures .1 .1 .0, read .kept .1 .1 .1 .0, e .pre), read .ensures .1 .1 .1 (passed refl (c .before .before .before .before .if2 .left)))
 
 slice-reshare-prefix-write-all : tie.Need-slice-reshare-prefix-write-all
 slice-reshare-prefix-write-all c = search needs
 
 slice-aggregate-write-all-2 : tie.Need-slice-aggregate-write-all-2
 slice-aggregate-write-all-2 c =
-    let answer = c .before .before .before .before .before .answer in
+    let answer = c .before .before .before .before .before .before .before .answer in
     front (answer .result) (answer .last .0) (answer .ensures .0)
 
 write-all-requires-2 : tie.Need-write-all-requires-2
@@ -114,7 +114,7 @@ serve-spec =
     slice-aggregate-answer
     slice-relend-prefix-answer
     slice-aggregate-answer-2
-    slice-reshare-prefix-answer-2
+    slice-relend-prefix-answer-2
     slice-aggregate-answer-3
     answer-requires
     slice-reshare-prefix-write-all

@@ -5,22 +5,22 @@ use borrow.Author.Needs.{needs}
 use Rattle.menuask.proofs.request.parts_of.Statement.{statement}
 use Rattle.menuask.proofs.request.parts_of.Tie as tie
 
+within-or-page-requires : tie.Need-within-or-page-requires
+within-or-page-requires c κs = search needs
+
+within-or-page-requires-2 : tie.Need-within-or-page-requires-2
+within-or-page-requires-2 c κs = search needs
+
 within-requires : tie.Need-within-requires
 within-requires c κs = search needs
-
-within-requires-2 : tie.Need-within-requires-2
-within-requires-2 c κs = search needs
-
-within-requires-3 : tie.Need-within-requires-3
-within-requires-3 c κs = search needs
 
 numbers-requires : tie.Need-numbers-requires
 numbers-requires c κs = search needs
 
 returns : tie.Need-returns
-returns c = rw (c .before .before .before .within .ensures, c .before .before .within2 .ensures, c .before .within3 .ensures, c .numbers .ensures) refl
+returns c = rw (c .before .before .before .within-or-page .ensures, c .before .before .within-or-page2 .ensures, c .before .within .ensures, c .numbers .ensures) refl
 
 pub parts-of-spec : {M : Type 1} → statement M
 parts-of-spec =
     tie.close
-    (tie.spec within-requires within-requires-2 within-requires-3 numbers-requires returns)
+    (tie.spec within-or-page-requires within-or-page-requires-2 within-requires numbers-requires returns)
