@@ -3,37 +3,14 @@
 use forms::places;
 use libc::STDIN_FILENO;
 use libc::STDOUT_FILENO;
-use replay::lines;
-use replay::lines::Filled;
-use replay::page;
-use replay::page::Page;
+use replay::sheet;
 ghost use Prim.Native.Nat.{_≤_};
 ghost use lib.ListN.{length};
 ghost use Rattle.replay.specs.Replayed.{enough, longestState};
-ghost use Rattle.replay.specs.Lines.{Reads, leastBuffer};
+ghost use Rattle.replay.specs.Lines.{leastBuffer};
 
 // The longest net, the longest log and a byte more: what a program does not read behind them changes no answer (`CutOff` of replay).
 const INPUT_MOST: usize = places::LONGEST_NET + places::LONGEST_LOG + 1;
-
-// Writes the first page, and the lines of the counts that are still to come: a buffer at a time, since by the bound of a line they might be
-// more than one has room for.
-fn print(out: &mut [u8], state: &[u8], page: Page)
-    requires { ⌜ (page .end ≤ length (now out)) × (leastBuffer ≤ length (now out)) ⌝ }
-    requires { ⌜ Reads (now state) (page .cells) ⌝ }
-{
-    let cells = page.cells;
-    let mut filled = Filled {
-        end: page.end,
-        next: page.next,
-    };
-    while filled.next < cells {
-        let full = filled.end;
-        io::write_all(STDOUT_FILENO, &out[..full]);
-        filled = lines::runs(out, 0, state, cells, filled.next);
-    }
-    let end = filled.end;
-    io::write_all(STDOUT_FILENO, &out[..end]);
-}
 
 // Replays what arrives, and prints what came of it.
 fn answer(arrived: &mut [u8], state: &mut [u8], out: &mut [u8])
@@ -42,8 +19,8 @@ fn answer(arrived: &mut [u8], state: &mut [u8], out: &mut [u8])
     requires { ⌜ leastBuffer ≤ length (now out) ⌝ }
 {
     let n = io::read_full(STDIN_FILENO, arrived);
-    let page = page::first(&arrived[..n], state, out);
-    print(out, state, page);
+    let first = sheet::first(&arrived[..n], state, out);
+    sheet::print(STDOUT_FILENO, out, state, first);
 }
 
 fn main() {

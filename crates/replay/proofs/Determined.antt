@@ -8,10 +8,12 @@ use Rattle.model.proofs.Determined.{Determined, LeavesOne}
 use Rattle.text.proofs.Determined.{line-once}
 use Rattle.replay.specs.declared.input.Replayed.{Replayed}
 use Rattle.replay.specs.declared.lines.Filled.{Filled}
-use Rattle.replay.specs.declared.page.Page.{Page}
-use Rattle.replay.specs.Lines.{resultName, resultFields, marksName, marksFields, runName, cellFields, nextRunning, cellsShown, Opens, RunLines, FirstPage}
+use Rattle.replay.specs.declared.sheet.Sheet.{Sheet}
+use Rattle.replay.specs.Lines.{resultName, resultFields, marksName, marksFields, runName, cellFields, nextRunning, cellsShown, Opens, RunLines, FirstSheet, Sheets}
 use Rattle.replay.specs.Lines.Opens.{alone, both}
 use Rattle.replay.specs.Lines.RunLines.{stop, more}
+use Rattle.replay.specs.Lines.Sheets.{last}
+use Rattle.replay.specs.Lines.Sheets.{more as further}
 use Rattle.replay.proofs.Shown.{not-both}
 use Rattle.replay.proofs.input.net_length.Reads as net-length
 use Rattle.replay.proofs.input.net_length.Kinds as net-length-kinds
@@ -35,8 +37,12 @@ use Rattle.replay.proofs.lines.run_of.Reads as run-of
 use Rattle.replay.proofs.lines.run_of.Kinds as run-of-kinds
 use Rattle.replay.proofs.lines.runs.Reads as runs
 use Rattle.replay.proofs.lines.runs.Kinds as runs-kinds
-use Rattle.replay.proofs.page.first.Reads as first
-use Rattle.replay.proofs.page.first.Kinds as first-kinds
+use Rattle.replay.proofs.sheet.show.Reads as show
+use Rattle.replay.proofs.sheet.show.Kinds as show-kinds
+use Rattle.replay.proofs.sheet.first.Reads as first
+use Rattle.replay.proofs.sheet.first.Kinds as first-kinds
+use Rattle.replay.proofs.sheet.print.Reads as print
+use Rattle.replay.proofs.sheet.print.Kinds as print-kinds
 
 pub net-length-determined : Determined 1 net-length-kinds.ps net-length-kinds.r net-length.Learnt
 net-length-determined κs args x y s s′ p q = p .0 ∙ sym (q .0)
@@ -53,14 +59,14 @@ replay-leaves κs args x y s s′ p q = p .1 ∙ sym (q .1)
 -- THE LINES
 
 -- one line or two
-opens-once : (before : List ℕ) (told : Replayed) (state after after′ : List ℕ) (end end′ : ℕ) → Opens before told state after end
-    → Opens before told state after′ end′ → (after ≡ after′) × (end ≡ end′)
-opens-once before told state after after′ end end′ (alone e l) (alone f m) =
-    line-once before 0 resultName (resultFields told) [] after after′ end end′ l m
-opens-once before told state after after′ end end′ (alone e l) (both f m n) = not-both e f
-opens-once before told state after after′ end end′ (both e l k) (alone f m) = not-both f e
-opens-once before told state after after′ end end′ (both {between = b} {at = a} e l k) (both {between = b₂} {at = a₂} f m n) =
-    let (stands, ends) = line-once before 0 resultName (resultFields told) [] b₂ b a₂ a m l in
+opens-once : (before : List ℕ) (at : ℕ) (told : Replayed) (state after after′ : List ℕ) (end end′ : ℕ) → Opens before at told state after end
+    → Opens before at told state after′ end′ → (after ≡ after′) × (end ≡ end′)
+opens-once before at told state after after′ end end′ (alone e l) (alone f m) =
+    line-once before at resultName (resultFields told) [] after after′ end end′ l m
+opens-once before at told state after after′ end end′ (alone e l) (both f m n) = not-both e f
+opens-once before at told state after after′ end end′ (both e l k) (alone f m) = not-both f e
+opens-once before at told state after after′ end end′ (both {between = b} {next = a} e l k) (both {between = b₂} {next = a₂} f m n) =
+    let (stands, ends) = line-once before at resultName (resultFields told) [] b₂ b a₂ a m l in
     line-once b a marksName (marksFields state) [] after after′ end end′ k (rw (stands, ends) at n)
 
 -- as many lines of counts as there is room for
@@ -89,10 +95,10 @@ pub marks-leaves : LeavesOne 2 marks-kinds.ps marks-kinds.r marks.Learnt (λ κs
 marks-leaves κs args x y s s′ p q = line-once _ _ _ _ _ (now (s .0)) (now (s′ .0)) x y (p .1) (q .1) .0
 
 pub opening-determined : Determined 2 opening-kinds.ps opening-kinds.r opening.Learnt
-opening-determined κs args x y s s′ p q = opens-once _ _ _ (now (s .0)) (now (s′ .0)) x y (p .1) (q .1) .1
+opening-determined κs args x y s s′ p q = opens-once _ _ _ _ (now (s .0)) (now (s′ .0)) x y (p .1) (q .1) .1
 
 pub opening-leaves : LeavesOne 2 opening-kinds.ps opening-kinds.r opening.Learnt (λ κs s. now (s .0))
-opening-leaves κs args x y s s′ p q = opens-once _ _ _ (now (s .0)) (now (s′ .0)) x y (p .1) (q .1) .0
+opening-leaves κs args x y s s′ p q = opens-once _ _ _ _ (now (s .0)) (now (s′ .0)) x y (p .1) (q .1) .0
 
 pub cells-shown-determined : Determined 1 cells-shown-kinds.ps cells-shown-kinds.r cells-shown.Learnt
 cells-shown-determined κs args x y s s′ p q = p ∙ sym q
@@ -120,24 +126,46 @@ runs-determined κs args x y s s′ p q =
 pub runs-leaves : LeavesOne 2 runs-kinds.ps runs-kinds.r runs.Learnt (λ κs s. now (s .0))
 runs-leaves κs args x y s s′ p q = runs-once _ _ _ _ _ (now (s .0)) (now (s′ .0)) (x .end) (y .end) (x .next) (y .next) (p .1) (q .1) .0
 
--- the first page
-page-once : (before : List ℕ) (told : Replayed) (state after after′ : List ℕ) (end end′ next next′ : ℕ) → FirstPage before told state after end next
-    → FirstPage before told state after′ end′ next′ → (after ≡ after′) × (end ≡ end′) × (next ≡ next′)
-page-once before told state after after′ end end′ next next′ p q =
+-- the first buffer
+pub sheet-once : (before : List ℕ) (at : ℕ) (told : Replayed) (state after after′ : List ℕ) (end end′ next next′ : ℕ)
+    → FirstSheet before at told state after end next → FirstSheet before at told state after′ end′ next′
+    → (after ≡ after′) × (end ≡ end′) × (next ≡ next′)
+sheet-once before at told state after after′ end end′ next next′ p q =
     let cells = cellsShown (told .number) state in
-    let (stands, ends) = opens-once before told state (q .opened) (p .opened) (q .at) (p .at) (q .opens) (p .opens) in
-    runs-once state cells (p .opened) (p .at) (nextRunning state cells 0) after after′ end end′ next next′ (p .counts) (rw (stands, ends) at (q .counts))
+    let (stands, ends) = opens-once before at told state (q .opened) (p .opened) (q .behind) (p .behind) (q .opens) (p .opens) in
+    runs-once state cells (p .opened) (p .behind) (nextRunning state cells 0) after after′ end end′ next next′ (p .counts) (rw (stands, ends) at (q .counts))
 
-same-page : (x y : Page) → x .end ≡ y .end → x .next ≡ y .next → x .cells ≡ y .cells → x ≡ y
-same-page x y e n c = λ i. record { end = e i; next = n i; cells = c i }
+pub same-sheet : (x y : Sheet) → x .end ≡ y .end → x .next ≡ y .next → x .cells ≡ y .cells → x ≡ y
+same-sheet x y e n c = λ i. record { end = e i; next = n i; cells = c i }
+
+pub show-determined : Determined 2 show-kinds.ps show-kinds.r show.Learnt
+show-determined κs args x y s s′ p q =
+    let same = sheet-once _ _ _ _ (now (s .0)) (now (s′ .0)) (x .end) (y .end) (x .next) (y .next) (p .0) (q .0) in
+    same-sheet x y (same .1) (same .2) (p .1 .0 ∙ sym (q .1 .0))
+
+pub show-leaves : LeavesOne 2 show-kinds.ps show-kinds.r show.Learnt (λ κs s. now (s .0))
+show-leaves κs args x y s s′ p q = sheet-once _ _ _ _ (now (s .0)) (now (s′ .0)) (x .end) (y .end) (x .next) (y .next) (p .0) (q .0) .0
 
 pub first-determined : Determined 3 first-kinds.ps first-kinds.r first.Learnt
 first-determined κs args x y s s′ p q =
-    let same = page-once _ _ _ (now (s .1 .1 .0)) (now (s′ .1 .1 .0)) (x .end) (y .end) (x .next) (y .next) (p .0) (q .0) in
-    same-page x y (same .1) (same .2) (p .1 .0 ∙ sym (q .1 .0))
+    let same = sheet-once _ _ _ _ (now (s .1 .1 .0)) (now (s′ .1 .1 .0)) (x .end) (y .end) (x .next) (y .next) (p .0) (q .0) in
+    same-sheet x y (same .1) (same .2) (p .1 .0 ∙ sym (q .1 .0))
 
 pub first-leaves : LeavesOne 3 first-kinds.ps first-kinds.r first.Learnt (λ κs s. now (s .1 .0))
 first-leaves κs args x y s s′ p q = p .1 .1 .0 ∙ sym (q .1 .1 .0)
 
 pub first-prints : LeavesOne 3 first-kinds.ps first-kinds.r first.Learnt (λ κs s. now (s .1 .1 .0))
-first-prints κs args x y s s′ p q = page-once _ _ _ (now (s .1 .1 .0)) (now (s′ .1 .1 .0)) (x .end) (y .end) (x .next) (y .next) (p .0) (q .0) .0
+first-prints κs args x y s s′ p q = sheet-once _ _ _ _ (now (s .1 .1 .0)) (now (s′ .1 .1 .0)) (x .end) (y .end) (x .next) (y .next) (p .0) (q .0) .0
+
+-- the buffers behind it
+sheets-once : (s : List ℕ) (cells : ℕ) (b : List ℕ) (next : ℕ) (after after′ : List ℕ) → Sheets s cells b next after → Sheets s cells b next after′
+    → after ≡ after′
+sheets-once s cells b next after after′ (last e) (last f) = refl
+sheets-once s cells b next after after′ (last e) (further f m q) = not-both f e
+sheets-once s cells b next after after′ (further e l r) (last f) = not-both e f
+sheets-once s cells b next after after′ (further {b₁} {end} {next₁} e l r) (further {b₁ = b₂} {end = end₂} {next₁ = next₂} f m q) =
+    let (stands, ends, goes) = runs-once s cells b 0 (nextRunning s cells next) b₂ b₁ end₂ end next₂ next₁ m l in
+    sheets-once s cells b₁ next₁ after after′ r (rw (stands, goes) at q)
+
+pub print-leaves : LeavesOne 2 print-kinds.ps print-kinds.r print.Learnt (λ κs s. now (s .1 .0))
+print-leaves κs args x y s s′ p q = sheets-once _ _ _ _ (now (s .1 .0)) (now (s′ .1 .0)) p q

@@ -18,10 +18,10 @@ use Rattle.replay.specs.Lines.RunLines.{more as further}
 use Rattle.replay.specs.Edges.{result, zeros, resultText, olderText, fresherText, LineEdges}
 
 -- a number spelt with so many digits
-spell : (b : List ℕ) (at n k : ℕ) → Fewest 10 1 n k → Spelt b at n (paste b at (digits 10 k n) k) (at + k)
+pub spell : (b : List ℕ) (at n k : ℕ) → Fewest 10 1 n k → Spelt b at n (paste b at (digits 10 k n) k) (at + k)
 spell b at n k f = record { places = k; fewest = f; ends = refl; stands = refl }
 
-figure : (n : ℕ) → n < 10 → Fewest 10 1 n 1
+pub figure : (n : ℕ) → n < 10 → Fewest 10 1 n 1
 figure n h = (omega arith, omega arith, λ l. absurd (omega arith))
 
 -- the line of the result, at the front of a buffer
@@ -85,7 +85,7 @@ line-edges = record {
         ends = refl;
       });
   both =
-      late {between = resultText ++ zeros 16} {at = 22} refl (result-at (zeros 16))
+      late {between = resultText ++ zeros 16} {next = 22} refl (result-at (zeros 16))
       (record {
         numbered = _;
         last = 33;

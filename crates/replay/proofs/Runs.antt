@@ -13,7 +13,7 @@ use Rattle.model.proofs.Tab.{both-tell}
 use Rattle.model.proofs.Tests.{leb-tells, ltb-tells}
 use Rattle.model.proofs.Lowest.{lowest-is}
 use Rattle.replay.specs.declared.input.Replayed.{Replayed}
-use Rattle.replay.specs.Lines.{Opens, FirstPage, cellsShown, runMost, countOf, nextRunning, goes-on?, RunLines}
+use Rattle.replay.specs.Lines.{Opens, FirstSheet, cellsShown, runMost, countOf, nextRunning, goes-on?, RunLines}
 use Rattle.replay.specs.Lines.RunLines.{stop, more}
 use Rattle.replay.proofs.Shown.{not-both}
 
@@ -74,10 +74,16 @@ module _ (s : List ℕ) (cells : ℕ) where
       by-test true e = omega (arith, next-bounds from (omega arith) .0, later lines (ltb-true (nextRunning s cells from) cells e) room)
       by-test false e = omega (arith, ltb-false (nextRunning s cells from) cells e, not-back lines)
 
--- what is replayed, opened and put behind it is the first page
-pub first-page : (told′ told : Replayed) (state′ state before opened after : List ℕ) (at cells end next : ℕ) → told ≡ told′ → state ≡ state′
-    → cells ≡ cellsShown (told .number) state → Opens before told state opened at → RunLines state cells opened at (nextRunning state cells 0) after end next
-    → FirstPage before told′ state′ after end next × (cells ≡ cellsShown (told′ .number) state′)
-first-page told′ told state′ state before opened after at cells end next t s c o r =
-    let page : FirstPage before told state after end next = record { opened = opened; at = at; opens = o; counts = rw c at r } in
-    (rw (t, s) at page, rw (t, s) at c)
+-- THE FIRST BUFFER: the opening, and the lines of the counts behind it
+
+pub first-sheet : (told : Replayed) (state before opened after : List ℕ) (at behind cells end next : ℕ) → cells ≡ cellsShown (told .number) state
+    → Opens before at told state opened behind → RunLines state cells opened behind (nextRunning state cells 0) after end next
+    → FirstSheet before at told state after end next
+first-sheet told state before opened after at behind cells end next c o r =
+    record { opened = opened; behind = behind; opens = o; counts = rw c at r }
+
+-- of what is told and left, whatever the names
+pub sheet-of : (told′ told : Replayed) (state′ state before after : List ℕ) (at cells end next : ℕ) → told ≡ told′ → state ≡ state′
+    → FirstSheet before at told state after end next → cells ≡ cellsShown (told .number) state
+    → FirstSheet before at told′ state′ after end next × (cells ≡ cellsShown (told′ .number) state′)
+sheet-of told′ told state′ state before after at cells end next t s f c = (rw (t, s) at f, rw (t, s) at c)

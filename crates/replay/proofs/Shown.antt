@@ -83,6 +83,9 @@ module _ (A : List ℕ → List ℕ → Type 0) (of-written : (net : List ℕ) (
     late-holds : early? (replayed input state .number) ≡ false → A (netIn input) (replayLeft input state)
     late-holds late = by-begun _ refl late
 
+pub ran-shown : (net state log : List ℕ) → early? (runTold net state log .number) ≡ false → Shown (runLeft net state log)
+ran-shown net state log = ran-late (λ net b. Shown b) (λ net S b h. written-shown (netOf net) S b h) net state log _ refl
+
 pub shown : (input state : List ℕ) → early? (replayed input state .number) ≡ false → Shown (replayLeft input state)
 shown = late-holds (λ net b. Shown b) (λ net S b h. written-shown (netOf net) S b h)
 

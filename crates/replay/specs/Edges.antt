@@ -101,8 +101,8 @@ pub record LineEdges : Type 0 where
   pub result-line : Line (zeros 24) 0 resultName (resultFields (result 13 7 2 1 3 6 5)) [] (resultText ++ zeros 2) 22
   pub marks-line : Line (zeros 14) 1 marksName (marksFields atRest) [] (0 ∷ marksText ++ zeros 1) 13
   -- for 10 only the first line, and no count is looked at; else the markings too, and every count
-  pub alone : Opens (zeros 24) (refusedBy 10) rowState (earlyText ++ zeros 2) 22
-  pub both : Opens (zeros 38) (result 13 7 2 1 3 6 5) atRest (resultText ++ marksText ++ zeros 4) 34
+  pub alone : Opens (zeros 24) 0 (refusedBy 10) rowState (earlyText ++ zeros 2) 22
+  pub both : Opens (zeros 38) 0 (result 13 7 2 1 3 6 5) atRest (resultText ++ marksText ++ zeros 4) 34
   pub no-cells : cellsShown 10 twoRunning ≡ 0
   pub all-cells : (cellsShown 0 twoRunning ≡ 8) × (cellsShown 11 twoRunning ≡ 8)
   -- transition first, age second; and where the room ends, the cell to come

@@ -56,11 +56,11 @@ marksName = 109 ∷ 97 ∷ 114 ∷ 107 ∷ 115 ∷ []
 abbrev pub marksFields : List ℕ → List ℕ
 marksFields state = tab (byte state 5) (λ p. word state (markAt p))
 
--- the two stand at the buffer's front; for 1 to 10 only the first
-pub data Opens (before : List ℕ) (told : Replayed) (state after : List ℕ) (end : ℕ) : Type 0 where
-  alone : early? (told .number) ≡ true → Line before 0 resultName (resultFields told) [] after end → Opens before told state after end
-  both : {between : List ℕ} {at : ℕ} → early? (told .number) ≡ false → Line before 0 resultName (resultFields told) [] between at
-      → Line between at marksName (marksFields state) [] after end → Opens before told state after end
+-- the two stand from `at` to `end`; for 1 to 10 only the first
+pub data Opens (before : List ℕ) (at : ℕ) (told : Replayed) (state after : List ℕ) (end : ℕ) : Type 0 where
+  alone : early? (told .number) ≡ true → Line before at resultName (resultFields told) [] after end → Opens before at told state after end
+  both : {between : List ℕ} {next : ℕ} → early? (told .number) ≡ false → Line before at resultName (resultFields told) [] between next
+      → Line between next marksName (marksFields state) [] after end → Opens before at told state after end
 
 -- THE OTHERS: `run`, and transition, age, count
 
@@ -122,9 +122,16 @@ pub data Reads (state : List ℕ) : ℕ → Type 0 where
   nothing : Reads state 0
   whole : Shown state → Reads state (cellsIn state)
 
--- the first buffer that is written: the opening, and behind it the lines of the counts as far as there is room
-pub record FirstPage (before : List ℕ) (told : Replayed) (state after : List ℕ) (end next : ℕ) : Type 0 where
+-- the first buffer that is written: from `at` on the opening, and behind it the lines of the counts as far as there is room
+pub record FirstSheet (before : List ℕ) (at : ℕ) (told : Replayed) (state after : List ℕ) (end next : ℕ) : Type 0 where
   pub opened : List ℕ
-  pub at : ℕ
-  pub opens : Opens before told state opened at
-  pub counts : RunLines state (cellsShown (told .number) state) opened at (nextRunning state (cellsShown (told .number) state) 0) after end next
+  pub behind : ℕ
+  pub opens : Opens before at told state opened behind
+  pub counts : RunLines state (cellsShown (told .number) state) opened behind (nextRunning state (cellsShown (told .number) state) 0) after end next
+
+-- the buffers that are written after it: each has at its front the lines of the counts that were to come, as far as there is room; `after` is
+-- the last of them, and there is none where no cell was to come
+pub data Sheets (state : List ℕ) (cells : ℕ) : List ℕ → ℕ → List ℕ → Type 0 where
+  last : {b : List ℕ} {next : ℕ} → ltb next cells ≡ false → Sheets state cells b next b
+  more : {b b₁ after : List ℕ} {next end next₁ : ℕ} → ltb next cells ≡ true → RunLines state cells b 0 (nextRunning state cells next) b₁ end next₁
+      → Sheets state cells b₁ next₁ after → Sheets state cells b next after

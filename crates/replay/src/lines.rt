@@ -26,11 +26,11 @@ pub struct Filled {
     pub next: usize,
 }
 
-// The line of the result, at the buffer's front.
-pub fn result(out: &mut [u8], told: Replayed) -> usize
-    requires { ⌜ resultMost ≤ length (now out) ⌝ }
-    ensures { λ r. ⌜ r ≤ resultMost ⌝ }
-    ensures { λ r. ⌜ Line (now (out .entry)) 0 resultName (resultFields told) [] (now (out .exit)) r ⌝ }
+// The line of the result.
+pub fn result(out: &mut [u8], at: usize, told: Replayed) -> usize
+    requires { ⌜ at + resultMost ≤ length (now out) ⌝ }
+    ensures { λ r. ⌜ r ≤ at + resultMost ⌝ }
+    ensures { λ r. ⌜ Line (now (out .entry)) at resultName (resultFields told) [] (now (out .exit)) r ⌝ }
 {
     let short = told.short;
     let numbers = [
@@ -42,7 +42,7 @@ pub fn result(out: &mut [u8], told: Replayed) -> usize
         short.place as u64,
         short.lacks as u64,
     ];
-    line::put_line(out, 0, b"result", &numbers)
+    line::put_line(out, at, b"result", &numbers)
 }
 
 // The line of the markings, place by place.
@@ -64,14 +64,14 @@ pub fn marks(out: &mut [u8], at: usize, state: &[u8]) -> usize
 }
 
 // The first line, and the second where the number is not early.
-pub fn opening(out: &mut [u8], told: Replayed, state: &[u8]) -> usize
-    requires { ⌜ leastBuffer ≤ length (now out) ⌝ }
+pub fn opening(out: &mut [u8], at: usize, told: Replayed, state: &[u8]) -> usize
+    requires { ⌜ at + leastBuffer ≤ length (now out) ⌝ }
     requires { ⌜ LateShown (told .number) (now state) ⌝ }
-    ensures { λ r. ⌜ r ≤ leastBuffer ⌝ }
-    ensures { λ r. ⌜ Opens (now (out .entry)) told (now (state .entry)) (now (out .exit)) r ⌝ }
+    ensures { λ r. ⌜ r ≤ at + leastBuffer ⌝ }
+    ensures { λ r. ⌜ Opens (now (out .entry)) at told (now (state .entry)) (now (out .exit)) r ⌝ }
 {
     let number = told.number;
-    let end = result(out, told);
+    let end = result(out, at, told);
     if input::is_early(number) {
         return end;
     }

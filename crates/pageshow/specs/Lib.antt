@@ -1,0 +1,4 @@
+pub mod Arguments
+pub mod Built
+pub mod Sheet
+pub mod Edges
