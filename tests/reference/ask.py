@@ -9,20 +9,25 @@ import sys
 import reference
 import wire
 
-SHOWS_BUFFER = ("initial", "event", "back", "run", "walk")
+# the slices that a call may write, which its line shows as it left them
+WRITTEN = {
+    "initial": ("state",),
+    "event": ("state",),
+    "back": ("state",),
+    "run": ("state",),
+    "walk": ("state",),
+    "page": ("state", "log"),
+}
 
 
 def answer(name, arguments):
     """The line for one request, without its end."""
-    arguments = list(arguments)
-    parameters = wire.BY_NAME[name][1]
-    buffer = None
-    if "state" in parameters:
-        place = parameters.index("state")
-        buffer = arguments[place] = bytearray(arguments[place])
-    fields = [name, *getattr(reference, name)(*arguments)]
-    if name in SHOWS_BUFFER:
-        fields.append(buffer.hex() or "-")
+    lent = {}
+    for parameter, value in zip(wire.BY_NAME[name][1], arguments):
+        written = parameter in WRITTEN.get(name, ())
+        lent[parameter] = bytearray(value) if written else value
+    fields = [name, *getattr(reference, name)(*lent.values())]
+    fields += [lent[parameter].hex() or "-" for parameter in WRITTEN.get(name, ())]
     return " ".join(str(field) for field in fields)
 
 

@@ -1,15 +1,17 @@
 #!/usr/bin/env python3
 """The cases that document 01 itself gives, on the children's row net, and cases of
-request W1, whose places and shortages are worked out by hand.
+requests W1 and W2, whose answers are worked out by hand.
 
 usage: document01.py          writes them as requests, in the document's order,
-                              those without a K first, those of W1 last
+                              those without a K first, those of W1 and W2 last,
+                              without the longest
        document01.py --check  tells whether the reference answers as they say
 """
 
 import sys
 
 import ask
+import menupage
 import menurun
 import reference
 import wire
@@ -53,7 +55,7 @@ def state(marking, counts=None):
 FINAL = state([0, 0, 1])
 BEFORE_LAST = state([0, 0, 0], {(1, 0): 1})
 
-# title, call, arguments, fields of the answer, buffer afterwards (None: not shown)
+# title, call, arguments, fields of the answer, buffer afterwards (None: not shown; of a page state and log)
 REMAINING = [
     ("start 0 taken back, place 0 at 65,535", "back", [NET, state([65535, 0, 0], {(0, 0): 1}), *START_0],
      (21, 0), state([65535, 0, 0], {(0, 0): 1})),
@@ -145,7 +147,163 @@ SHORT = [
     ("the first of 64 places", "run", [WIDE, wide([0] * 64), log(START_0)], (13, 0, 0, 0, 0, 1), wide([0] * 64)),
 ]
 
-CASES = REMAINING + PROVED + SHORT
+
+ROW_PAGE = [START_0, TICK, TICK, TICK, end_0(3), START_1, end_1(0)]
+DUE = {(0, 3): 1}
+CROWDED = {(0, 0): 65535}
+
+
+def room(size):
+    """A buffer for a log. What it holds is nothing to the runner."""
+    return b"\xaa" * size
+
+
+def paged(size, *pairs):
+    """That buffer with the log of these events at its front."""
+    return log(*pairs) + room(size - 5 - 2 * len(pairs))
+
+
+def page(title, before, size, budget, told, after, *pairs, net=NET):
+    """A page that is written: stop, events and ticks, and the state after these events."""
+    return title, "page", [net, before, room(size), budget], (0, 0, *told), (after, paged(size, *pairs))
+
+
+def refused_page(title, number, index, before, size, budget, net=NET):
+    """A page that is refused. Nothing is written."""
+    return title, "page", [net, before, room(size), budget], (number, index, 0, 0, 0), (before, room(size))
+
+
+# a place and a transition of no duration that takes its token and gives it back
+LOOP = bytes.fromhex("01 00 00 00 0D 01 01 00 01 00 00 01 01")
+LOOPED = [START_0, end_0(0)]
+
+
+def loop(tokens, count=0):
+    return bytes.fromhex("01 00 00 00 0C 01 01 01") + words([tokens, count])
+
+
+# a place; 64 transitions of one tick, of which the last takes and gives one token and the others 255
+TALL = bytes.fromhex("01 00 00 01 09 01 40 00 01") + bytes.fromhex("00 01 FF FF") * 63 + bytes.fromhex("01 01 01 01")
+START_63, END_63 = (64, 0), (128, 1)
+
+
+def tall(tokens, counts=None):
+    """The net's state with those tokens and those counts, by (transition, age)."""
+    values = [tokens] + [0] * 128
+    for (transition, age), count in (counts or {}).items():
+        values[1 + 2 * transition + age] = count
+    return bytes.fromhex("01 00 00 01 0A 01 40 02") + words(values)
+
+
+# in the row net start 0 takes from place 0 and end 0 gives to place 1, from which start 1 takes; end 1 gives to place 2
+WRITTEN = [
+    page("the row", INITIAL, 40, 100, (1, 7, 3), FINAL, *ROW_PAGE),
+    ("the row, in a buffer of zeros", "page", [NET, INITIAL, bytes(25), 100], (0, 0, 1, 7, 3), (FINAL, log(*ROW_PAGE) + bytes(6))),
+    ("the row, in a buffer that holds another log", "page", [NET, INITIAL, LOG, 100],
+     (0, 0, 3, 5, 3), (state([0, 1, 0]), log(*ROW_PAGE[:5]))),
+    ("the row, bytes behind the state", "page", [NET, INITIAL + b"\5\6\7", room(30), 100],
+     (0, 0, 1, 7, 3), (FINAL + b"\5\6\7", paged(30, *ROW_PAGE))),
+    page("the greatest budget", INITIAL, 40, 4294967295, (1, 7, 3), FINAL, *ROW_PAGE),
+    page("a budget of one more than is needed", INITIAL, 40, 8, (1, 7, 3), FINAL, *ROW_PAGE),
+    page("a budget of what is needed: rest is told first", INITIAL, 40, 7, (1, 7, 3), FINAL, *ROW_PAGE),
+    page("a budget of one less", INITIAL, 40, 6, (2, 6, 3), BEFORE_LAST, *ROW_PAGE[:6]),
+    page("a budget of 4", INITIAL, 40, 4, (2, 4, 3), state([0, 0, 0], DUE), *ROW_PAGE[:4]),
+    page("a budget of 1", INITIAL, 40, 1, (2, 1, 0), state([0, 0, 0], {(0, 0): 1}), START_0),
+    page("a budget of 0", INITIAL, 40, 0, (2, 0, 0), INITIAL),
+    page("a buffer of two bytes more than is needed", INITIAL, 21, 100, (1, 7, 3), FINAL, *ROW_PAGE),
+    page("a buffer of one byte more", INITIAL, 20, 100, (1, 7, 3), FINAL, *ROW_PAGE),
+    page("a buffer of what is needed", INITIAL, 19, 100, (1, 7, 3), FINAL, *ROW_PAGE),
+    page("a buffer of one byte less", INITIAL, 18, 100, (3, 6, 3), BEFORE_LAST, *ROW_PAGE[:6]),
+    page("a buffer of two bytes less", INITIAL, 17, 100, (3, 6, 3), BEFORE_LAST, *ROW_PAGE[:6]),
+    page("a buffer of 7 bytes", INITIAL, 7, 100, (3, 1, 0), state([0, 0, 0], {(0, 0): 1}), START_0),
+    page("a buffer of 6 bytes", INITIAL, 6, 100, (3, 0, 0), INITIAL),
+    page("a buffer of 5 bytes", INITIAL, 5, 100, (3, 0, 0), INITIAL),
+    page("a start meets 14", state([1, 0, 0], CROWDED), 40, 100, (4, 0, 0), state([1, 0, 0], CROWDED)),
+    page("the second start meets 14", state([2, 0, 0], {(0, 0): 65534}), 40, 100,
+         (4, 1, 0), state([1, 0, 0], CROWDED), START_0),
+    page("the count at age 0 is just full", state([1, 0, 0], {(0, 0): 65534}), 40, 2,
+         (2, 2, 1), state([0, 0, 0], {(0, 1): 65535}), START_0, TICK),
+    page("a full count at age 1 is no matter", state([1, 0, 0], {(0, 1): 65535}), 40, 1,
+         (2, 1, 0), state([0, 0, 0], {(0, 0): 1, (0, 1): 65535}), START_0),
+    page("the lowest start meets 14, another would not", state([1, 1, 0], CROWDED), 40, 100, (4, 0, 0), state([1, 1, 0], CROWDED)),
+    page("a full count that is owed ends first", state([0, 1, 0], {(1, 0): 65535}), 9, 100,
+         (3, 2, 0), state([0, 1, 2], {(1, 0): 65533}), end_1(0), end_1(0)),
+    page("an end meets 17", state([0, 0, 65535], {(1, 0): 1}), 40, 100, (5, 0, 0), state([0, 0, 65535], {(1, 0): 1})),
+    page("an end meets 17, a start would make room", state([0, 65535, 0], DUE), 40, 100, (5, 0, 0), state([0, 65535, 0], DUE)),
+    page("the place is just full", state([0, 65534, 0], DUE), 40, 2,
+         (2, 2, 0), state([0, 65534, 0], {(1, 0): 1}), end_0(3), START_1),
+    page("the second end meets 17", state([0, 65534, 0], {(0, 3): 2}), 40, 100,
+         (5, 1, 0), state([0, 65535, 0], DUE), end_0(3)),
+    page("the lowest end meets 17, another would not", state([0, 65535, 0], {**DUE, (1, 0): 1}), 40, 100,
+         (5, 0, 0), state([0, 65535, 0], {**DUE, (1, 0): 1})),
+    page("a higher end meets 17", state([0, 65534, 65535], {**DUE, (1, 0): 1}), 40, 100,
+         (5, 1, 0), state([0, 65535, 65535], {(1, 0): 1}), end_0(3)),
+    page("a start would meet 14, but an end is owed, which meets 17", state([1, 65535, 0], {**DUE, **CROWDED}), 40, 100,
+         (5, 0, 0), state([1, 65535, 0], {**DUE, **CROWDED})),
+    page("at rest", FINAL, 40, 100, (1, 0, 0), FINAL),
+    page("at rest, budget 0", FINAL, 40, 0, (1, 0, 0), FINAL),
+    page("at rest, no room", FINAL, 6, 100, (1, 0, 0), FINAL),
+    page("at rest, budget 0, no room", FINAL, 5, 0, (1, 0, 0), FINAL),
+    page("budget 0, no room", INITIAL, 5, 0, (2, 0, 0), INITIAL),
+    page("budget and room for one event", INITIAL, 7, 1, (2, 1, 0), state([0, 0, 0], {(0, 0): 1}), START_0),
+    page("budget 0, and 14", state([1, 0, 0], CROWDED), 40, 0, (2, 0, 0), state([1, 0, 0], CROWDED)),
+    page("budget 0, and 17", state([0, 65535, 0], DUE), 40, 0, (2, 0, 0), state([0, 65535, 0], DUE)),
+    page("no room, and 14", state([1, 0, 0], CROWDED), 6, 100, (3, 0, 0), state([1, 0, 0], CROWDED)),
+    page("no room, and 17", state([0, 65535, 0], DUE), 6, 100, (3, 0, 0), state([0, 65535, 0], DUE)),
+    page("budget 0, no room, and 14", state([1, 0, 0], CROWDED), 5, 0, (2, 0, 0), state([1, 0, 0], CROWDED)),
+    page("the lowest of two owed ends", state([0, 0, 0], {(0, 3): 2, (1, 0): 1}), 40, 100, (1, 7, 0), state([0, 0, 3]),
+         end_0(3), end_0(3), end_1(0), START_1, end_1(0), START_1, end_1(0)),
+    page("an owed end before a start", state([1, 0, 0], DUE), 40, 4,
+         (2, 4, 0), state([0, 0, 1], {(0, 0): 1}), end_0(3), START_0, START_1, end_1(0)),
+    page("the lowest of two starts", state([1, 1, 0]), 40, 2, (2, 2, 0), state([0, 0, 0], {(0, 0): 1, (1, 0): 1}), START_0, START_1),
+    page("one start twice", state([2, 1, 0]), 40, 2, (2, 2, 0), state([0, 1, 0], {(0, 0): 2}), START_0, START_0),
+    page("a start before a tick", state([1, 0, 0], {(0, 1): 1}), 40, 2,
+         (2, 2, 1), state([0, 0, 0], {(0, 1): 1, (0, 2): 1}), START_0, TICK),
+    page("a firing that may end waits for its lfd", state([0, 0, 0], {(0, 1): 1}), 40, 3,
+         (2, 3, 2), state([0, 1, 0]), TICK, TICK, end_0(3)),
+    page("the older of two firings ends", state([0, 0, 0], {(0, 2): 1, (0, 3): 1}), 40, 1,
+         (2, 1, 0), state([0, 1, 0], {(0, 2): 1}), end_0(3)),
+    page("no tick ever, budget 5", loop(1), 40, 5, (2, 5, 0), loop(0, 1), *LOOPED, *LOOPED, START_0, net=LOOP),
+    page("no tick ever, room for 4", loop(1), 14, 100, (3, 4, 0), loop(1), *LOOPED, *LOOPED, net=LOOP),
+    page("no tick ever, a full place", loop(65535), 40, 2, (2, 2, 0), loop(65535), *LOOPED, net=LOOP),
+    page("24,000 events, and room for two more", loop(1), 48010, 4294967295, (3, 24000, 0), loop(1), *LOOPED * 12000, net=LOOP),
+    page("the last of 64 transitions", tall(1), 13, 9,
+         (3, 4, 1), tall(0, {(63, 0): 1}), START_63, TICK, END_63, START_63, net=TALL),
+    page("the last of 64 transitions has an owed end", tall(0, {(63, 1): 1}), 9, 9,
+         (3, 2, 0), tall(0, {(63, 0): 1}), END_63, START_63, net=TALL),
+    page("the lowest of 64 starts", tall(256), 9, 9, (3, 2, 0), tall(0, {(0, 0): 1, (63, 0): 1}), START_0, START_63, net=TALL),
+    page("the lower of the last two owed ends", tall(0, {(62, 1): 1, (63, 1): 1}), 9, 9,
+         (3, 2, 0), tall(256), (127, 1), END_63, net=TALL),
+]
+
+UNWRITTEN = [
+    refused_page("no net", 1, 0, INITIAL, 40, 100, net=b""),
+    refused_page("the net's length is not the slice's", 1, 0, INITIAL, 40, 100, net=NET[:-1]),
+    refused_page("65 places", 2, 0, INITIAL, 40, 100, net=NET[:5] + b"\x41" + NET[6:]),
+    refused_page("another number of places", 3, 0, INITIAL, 40, 100, net=NET[:5] + b"\2" + NET[6:]),
+    refused_page("lfd 64 of transition 1", 4, 1, INITIAL, 40, 100, net=NET[:22] + b"\x40" + NET[23:]),
+    refused_page("no input weight of transition 1", 5, 1, INITIAL, 40, 100, net=NET[:24] + b"\0" + NET[25:]),
+    refused_page("no output weight of transition 1", 6, 1, INITIAL, 40, 100, net=NET[:28] + b"\0"),
+    refused_page("the net before state and buffer", 6, 1, b"", 4, 100, net=NET[:28] + b"\0"),
+    refused_page("the state is a byte short", 8, 0, INITIAL[:-1], 40, 100),
+    refused_page("no state", 8, 0, b"", 40, 100),
+    refused_page("transition 1 has a count above its lfd", 9, 1, state([1, 0, 0], {(1, 1): 1}), 40, 100),
+    refused_page("8 before 10", 8, 0, INITIAL[:-1], 4, 100),
+    refused_page("9 before 10", 9, 1, state([1, 0, 0], {(1, 1): 1}), 4, 100),
+    refused_page("a buffer of 4 bytes", 10, 0, INITIAL, 4, 100),
+    refused_page("no buffer", 10, 0, INITIAL, 0, 100),
+    refused_page("a buffer of 4 bytes, at rest, budget 0", 10, 0, FINAL, 4, 0),
+]
+
+CASES = REMAINING + PROVED + SHORT + WRITTEN + UNWRITTEN
+
+# these are checked and compared, but not stored
+LONGEST = [
+    page("24,000 events, and room for no more", loop(1), 48005, 24001, (3, 24000, 0), loop(1), *LOOPED * 12000, net=LOOP),
+    page("a byte too few for 24,000 events", loop(1), 48004, 24000, (3, 23999, 0), loop(0, 1), *(LOOPED * 12000)[:-1], net=LOOP),
+    page("a budget of 24,000", loop(1), 48005, 24000, (2, 24000, 0), loop(1), *LOOPED * 12000, net=LOOP),
+    page("24,000 events in the longest buffer", loop(1), 65536, 65536, (3, 24000, 0), loop(1), *LOOPED * 12000, net=LOOP),
+]
 
 # title, input of menurun, its whole output
 PRINTED = [
@@ -159,21 +317,73 @@ PRINTED = [
     ("the third start", four_net(9, 0, 21, 600) + THRICE_AND_MORE, "result 13 2 2 0 2 3 165\nmarks 5 0 7 90\nrun 0 0 2\n"),
 ]
 
+ROW_LINES = b"stop 1\nresult 0 7 7 3 4 0 0\nmarks 0 0 1\n"
+BUDGET_4 = b"stop 2\nresult 0 4 4 3 2 0 0\nmarks 0 0 0\nrun 0 3 1\n"
+NO_NET = b"stop 0\nresult 1 0 0 0 0 0 0\n"
+NO_INPUT = b"stop 0\nresult 5 1 0 0 0 0 0\n"
+LONG_NET = NET[:1] + (8455).to_bytes(4, "big") + NET[5:] + bytes(8455 - len(NET))
+TOO_LONG_NET = NET[:1] + (8456).to_bytes(4, "big") + NET[5:] + bytes(8456 - len(NET))
 
-def requests():
-    return [(name, arguments) for _, name, arguments, _, _ in CASES]
+# title, arguments of menupage, its input, standard output, standard error
+PAGES = [
+    ("the row", [], NET, ROW_LINES, b""),
+    ("the row and its log", ["--log"], NET, log(*ROW_PAGE), ROW_LINES),
+    ("budget 7", ["7"], NET, ROW_LINES, b""),
+    ("budget 4", ["4"], NET, BUDGET_4, b""),
+    ("budget 4, and the log", ["--log", "4"], NET, log(*ROW_PAGE[:4]), BUDGET_4),
+    ("the log, and budget 4", ["4", "--log"], NET, log(*ROW_PAGE[:4]), BUDGET_4),
+    ("budget 4 in ten digits", ["0000000004"], NET, BUDGET_4, b""),
+    ("budget 0", ["0"], NET, b"stop 2\nresult 0 0 0 0 1 0 0\nmarks 1 0 0\n", b""),
+    ("budget 0, and the log", ["--log", "0"], NET, log(), b"stop 2\nresult 0 0 0 0 1 0 0\nmarks 1 0 0\n"),
+    ("the greatest budget", ["4294967295"], NET, ROW_LINES, b""),
+    ("a net at rest", [], four_net(2, 0, 7, 254), b"stop 1\nresult 0 0 0 0 4 0 0\nmarks 2 0 7 254\n", b""),
+    ("a net that never ticks", [], LOOP, b"stop 2\nresult 0 24000 24000 0 1 0 0\nmarks 1\n", b""),
+    ("a net that never ticks, a greater budget", ["24001"], LOOP, b"stop 3\nresult 0 24000 24000 0 1 0 0\nmarks 1\n", b""),
+    ("a full place", [], LOOP[:7] + b"\xff\xff\0\0\1\2", b"stop 5\nresult 0 1 1 0 1 0 0\nmarks 65534\nrun 0 0 1\n", b""),
+    ("no input", [], b"", NO_NET, b""),
+    ("no input, and the log", ["--log"], b"", b"", NO_NET),
+    ("4 bytes", [], NET[:4], NO_NET, b""),
+    ("a byte too few", [], NET[:-1], NO_NET, b""),
+    ("a byte too many", [], NET + b"\0", NO_NET, b""),
+    ("a log behind the net", [], NET + LOG, NO_NET, b""),
+    ("a net longer than any", [], TOO_LONG_NET, NO_NET, b""),
+    ("a net as long as the longest", [], LONG_NET, b"stop 0\nresult 3 0 0 0 0 0 0\n", b""),
+    ("no input weight", ["5"], NET[:24] + b"\0" + NET[25:], NO_INPUT, b""),
+    ("no input weight, and the log", ["--log", "5"], NET[:24] + b"\0" + NET[25:], b"", NO_INPUT),
+]
+
+# arguments that menupage refuses by its usage line
+MISUSED = [
+    [""], ["x"], ["4294967296"], ["9999999999"], ["00000000004"], ["-1"], ["+1"], [" 1"], ["1 "], ["1.0"], ["0x1"], ["1_0"], ["\u0661"],
+    ["--"], ["--log="], ["--Log"], ["-log"], ["log"], ["--log", ""], ["--log", "x"], ["--log", "4294967296"], ["--log", "--log"],
+    ["", "--log"], ["4", "4"], ["4", "4", "--log"], ["--log", "4", "4"], ["--log", "4", "--log"], ["--log", "4", ""], ["", "4"],
+    ["--log" + 11 * " "], ["--log" + 12 * " "], 16 * ["4"], [16 * "4"], [17 * "4"], ["4", 17 * "4"],
+]
+
+
+def requests(cases):
+    return [(name, arguments) for _, name, arguments, _, _ in cases]
 
 
 def inputs():
     return [data for _, data, _ in PRINTED]
 
 
+def pages():
+    """Arguments and inputs of menupage."""
+    return [(arguments, data) for _, arguments, data, _, _ in PAGES] + [(arguments, NET) for arguments in MISUSED]
+
+
+def line_of(name, fields, after):
+    buffers = () if after is None else after if isinstance(after, tuple) else (after,)
+    return " ".join([name, *map(str, fields), *(buffer.hex() or "-" for buffer in buffers)])
+
+
 def check():
     """The number of cases, and the titles of those that the reference answers otherwise."""
     wrong = []
-    for title, name, arguments, fields, after in CASES:
-        line = " ".join(map(str, (name, *fields))) + ("" if after is None else " " + after.hex())
-        if ask.answer(name, arguments) != line:
+    for title, name, arguments, fields, after in CASES + LONGEST:
+        if ask.answer(name, arguments) != line_of(name, fields, after):
             wrong.append(title)
     for title, k, part in (("part of step 0", 0, "0100"), ("part of step 1", 1, "410102004200")):
         _, _, start, length = reference.step(LOG, k)
@@ -184,15 +394,21 @@ def check():
     for title, data, printed in PRINTED:
         if menurun.output(data) != printed:
             wrong.append(f"menurun: {title}")
-    return len(CASES) + len(PRINTED) + 3, wrong
+    for title, arguments, data, out, err in PAGES:
+        if menupage.printed(arguments, data) != (out, err):
+            wrong.append(f"menupage: {title}")
+    for arguments in MISUSED:
+        if menupage.printed(arguments, NET) != (b"", menupage.USAGE.encode()):
+            wrong.append(f"menupage: {arguments}")
+    return len(CASES + LONGEST) + len(PRINTED) + len(PAGES) + len(MISUSED) + 3, wrong
 
 
 if __name__ == "__main__":
     if sys.argv[1:] == ["--check"]:
         count, wrong = check()
-        print(f"{count - len(wrong)} of {count} as document 01 and W1 say")
+        print(f"{count - len(wrong)} of {count} as document 01, W1 and W2 say")
         for title in wrong:
             print(f"differs: {title}")
         sys.exit(1 if wrong else 0)
-    for name, arguments in requests():
+    for name, arguments in requests(CASES):
         sys.stdout.buffer.write(wire.encode(name, *arguments))

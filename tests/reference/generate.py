@@ -2,13 +2,16 @@
 """A seeded stream of requests for `menuask`: lawful, nearly lawful, damaged, at every limit.
 
 usage: generate.py SEED COUNT [--bad-end]    writes COUNT requests, and with --bad-end a bad one last
-       generate.py SEED COUNT --census       counts the reference's answers instead, by number and call, and those
-                                             of 13 by what its place and shortage tell apart
+       generate.py SEED COUNT --census       counts the reference's answers instead, by number and call, those of 13
+                                             by what its place and shortage tell apart, and pages by stop, by the
+                                             limits that they come near, and by the wrong readings that they show
        generate.py --menurun SEED N DIR      writes N inputs of `menurun` as files of that folder
 """
 
 import argparse
 import collections
+import contextlib
+import itertools
 import os
 import random
 import sys
@@ -17,7 +20,7 @@ import ask
 import material
 import reference
 import wire
-from reference import Net, Transition
+from reference import END, START, TICK, Event, Net, Transition
 
 MANY = 2**32 - 1
 
@@ -295,6 +298,7 @@ def flipped_requests(rng):
         yield name, arguments
 
 
+# every call but the page
 SCENARIOS = (
     (net_requests, 10.5),
     (initial_requests, 4),
@@ -319,6 +323,93 @@ SCENARIOS = (
     (damaged_requests, 8),
     (flipped_requests, 10),
 )
+
+
+# ---- pages
+
+
+def page_of(rng, *kinds):
+    """A page from a state of one of these kinds, its buffer and its budget about what it needs."""
+    net, state, events = material.page_start(rng, kinds)
+    size, budget = material.page_bounds(rng, events)
+    return stored(net), buffer_of(rng, net, state), rng.randbytes(size), budget
+
+
+def any_page(rng):
+    return page_of(rng, material.busy_state, material.busy_state, material.any_state, material.quiet_state, material.due_state)
+
+
+def crowded_page(rng):
+    """A start meets the limit of its count, or comes near."""
+    return page_of(rng, material.crowded_state)
+
+
+def brimming_page(rng):
+    """An end meets the limit of a place, or comes near."""
+    return page_of(rng, material.brimming_state)
+
+
+def tall_page(rng):
+    """Of 64 transitions a high one is chosen."""
+    net = material.tall_net(rng)
+    last = len(net.transitions) - 1
+    t = rng.choice([last, last, rng.randint(32, last)])
+    idle = tuple(row._replace(inputs=(255,) * len(net.marking)) for row in net.transitions[:t])
+    net = net._replace(transitions=idle + net.transitions[t:])
+    counts = material.with_counts(net, {(t, rng.randint(0, net.transitions[t].lfd)): rng.choice([1, 2, 65_535])})
+    state = reference.State(tuple(rng.choice([1, 3, 9]) for _ in net.marking), counts)
+    return stored(net), buffer_of(rng, net, state), rng.randbytes(rng.randint(5, 40)), rng.randint(0, 20)
+
+
+def full_page(rng):
+    """A page on the longest net."""
+    net = material.full_net(rng)
+    image = reference.state_image(net, rng.choice([material.busy_state, material.wild_state])(rng, net))
+    return stored(net), image, rng.randbytes(rng.randint(5, 300)), rng.randint(0, 200)
+
+
+def flipped_page(rng):
+    """One byte of a good page's net or state is another."""
+    arguments = list(any_page(rng))
+    at = rng.randrange(2)
+    arguments[at] = material.flipped(rng, arguments[at])
+    return arguments
+
+
+def refused_page(rng, wanted):
+    """A page that is refused by the number; at times there is another fault behind."""
+    number = None
+    while number != wanted:
+        net = material.any_net(rng)
+        state = rng.choice([material.busy_state, material.quiet_state])(rng, net)
+        data, buffer = stored(net), buffer_of(rng, net, state)
+        log, budget = rng.randbytes(rng.choice([5, 6, 7, rng.randint(5, 40)])), rng.choice([0, 1, 9, MANY])
+        if wanted <= 6:
+            data = material.damaged_net(rng, data)
+        if wanted in (8, 9) or (wanted <= 6 and rng.random() < 0.25):
+            buffer = material.damaged_state(rng, net, buffer)
+        if wanted == 10 or rng.random() < 0.25:
+            log = rng.randbytes(rng.choice([0, 1, 2, 3, 4, 4, 4]))
+        number = reference.page(data, bytearray(buffer), bytearray(log), 0)[0]
+    return data, buffer, log, budget
+
+
+PAGE_SCENARIOS = (
+    (any_page, 29),
+    (crowded_page, 17),
+    (brimming_page, 14),
+    (tall_page, 6),
+    (full_page, 0.3),
+    (flipped_page, 3),
+)
+PAGE_REFUSALS = (1, 2, 3, 4, 5, 6, 8, 9, 10)
+
+
+def longest_page(rng):
+    """A page of 24,000 events, or nearly."""
+    net = ever_running(rng)
+    size = rng.choice([48_004, 48_005, 48_006, 48_007, 65_536])
+    return stored(net), reference.state_image(net, reference.initial_state(net)), rng.randbytes(size), rng.choice([24_000, 24_001, MANY])
 
 
 # ---- the longest requests, by turns
@@ -387,14 +478,16 @@ def longest_requests(rng, turn):
 
 LONGEST_EVERY = 1_000
 FULL_EVERY = 250
+PAGE_EVERY = 4
+LONGEST_PAGE_EVERY = 1_500
 
 
-def requests(seed, count):
-    """So many requests, as (name, arguments)."""
+def other_requests(seed):
+    """Requests of every call but the page, without end."""
     rng = random.Random(seed)
     kinds, shares = zip(*SCENARIOS)
     made = longest = full = 0
-    while made < count:
+    while True:
         if made >= longest * LONGEST_EVERY + LONGEST_EVERY // 2:
             batch = [longest_requests(rng, longest)]
             longest += 1
@@ -406,8 +499,29 @@ def requests(seed, count):
         for request in batch:
             yield request
             made += 1
-            if made == count:
-                return
+
+
+def pages(seed):
+    """Requests for pages, without end: every third is refused, by each number in its turn,
+    and now and then comes the longest."""
+    rng = random.Random(f"pages {seed}")
+    kinds, shares = zip(*PAGE_SCENARIOS)
+    refusals = itertools.cycle(PAGE_REFUSALS)
+    for made in itertools.count(1):
+        if made % LONGEST_PAGE_EVERY == 0:
+            arguments = longest_page(rng)
+        elif made % 3 == 0:
+            arguments = refused_page(rng, next(refusals))
+        else:
+            arguments = rng.choices(kinds, shares)[0](rng)
+        yield "page", list(arguments)
+
+
+def requests(seed, count):
+    """So many requests, as (name, arguments). Every fourth is a page."""
+    others, paged = other_requests(seed), pages(seed)
+    for made in range(1, count + 1):
+        yield next(others if made % PAGE_EVERY else paged)
 
 
 # ---- bad requests
@@ -421,7 +535,7 @@ def bad_requests(rng):
     number = wire.four_bytes
     return [
         b"\x00" + good[1:],
-        b"\x0b" + good[1:],
+        b"\x0c" + good[1:],
         b"\xff",
         good[:1],
         good[: rng.randrange(1, len(good))],
@@ -436,6 +550,10 @@ def bad_requests(rng):
         wire.encode("back", net, b"", MANY, 0),
         wire.encode("back", net, b"", 0, 65_536),
         wire.encode("degree", net, b"", 0)[:-2],
+        wire.encode("page", net, bytes(16_385), b"", 0),
+        wire.encode("page", net, b"", bytes(65_537), 0),
+        wire.encode("page", net, b"", bytes(7), 9)[:-5],
+        wire.encode("page", net, b"", bytes(7), 9)[:-1],
     ]
 
 
@@ -491,6 +609,53 @@ def write_menurun_inputs(seed, count, folder):
             file.write(menurun_input(rng))
 
 
+# ---- inputs of menupage
+
+
+def menupage_words(rng):
+    """Arguments: mostly a small budget, some that are none of the program's."""
+    budget = rng.choice([0, 1, 2, 3, 7, 20, 20, 60, 60, 200, 200, rng.randint(0, 400), 1_500])
+    word = rng.choice([str(budget)] * 8 + [f"{budget:010}"])
+    words = ["--log", word] if rng.random() < 0.4 else [word]
+    kind = rng.randrange(40)
+    if kind == 3:
+        return words[::-1]
+    if kind == 0:
+        return words[:-1]
+    if kind == 1:
+        return words[:-1] + [rng.choice(["24000", "24001", "65536", "4294967295"])]
+    if kind == 2:
+        return words[:-1] + [rng.choice(["4294967296", "4294967297", "", "-" + word, word + "x", "0" * 11])]
+    return words
+
+
+def menupage_net(rng):
+    """A net; some damaged, too short or too long."""
+    net = material.full_net(rng) if rng.random() < 0.02 else material.any_net(rng)
+    if rng.random() < 0.12:
+        net = net._replace(marking=tuple(material.edge_value(rng) for _ in net.marking))
+    data = stored(net)
+    kind = rng.randrange(24)
+    if kind == 0:
+        return rng.choice([data[: rng.randrange(len(data))], data[: rng.randrange(8)], data[:-1], b""])
+    if kind == 1:
+        return data + rng.choice([b"\0", rng.randbytes(rng.randint(1, 30)), menurun_long_log(rng)])
+    if kind == 2:
+        length = rng.choice([0, 4, 5, 6, 7, len(data) - 1, len(data) + 1, 8_455, 8_456, 65_536, MANY])
+        return data[:1] + wire.four_bytes(length) + data[5:]
+    if kind == 3:
+        return material.with_length(data + bytes(rng.choice([8_455, 8_456, 9_000]) - len(data))) if len(data) < 8_455 else data
+    if kind in (4, 5):
+        return material.damaged_net(rng, data)
+    return data
+
+
+def menupage_inputs(seed, count):
+    """So many inputs, as (arguments, standard input)."""
+    rng = random.Random(seed)
+    return [(menupage_words(rng), menupage_net(rng)) for _ in range(count)]
+
+
 # ---- what was made
 
 
@@ -531,18 +696,168 @@ def short_kinds(net, begin, state, t):
     }
 
 
+def choosing(order=(END, START, TICK), highest=(), age="lfd", spared=()):
+    """A choice of the next event by another reading: kinds in that order, the highest of some, ends
+    at that age, and events passed over that meet the spared numbers. With nothing given it is the right one."""
+
+    def choose(net, state):
+        ages = [getattr(row, age) for row in net.transitions]
+        found = {
+            END: [Event(END, t, ages[t]) for t in range(len(ages)) if state.counts[t][ages[t]] > 0],
+            START: [Event(START, t) for t in range(len(ages)) if reference.is_enabled(net, state, t)],
+            TICK: [Event(TICK)] if reference.is_running(state) else [],
+        }
+        for kind in order:
+            events = [event for event in found[kind] if reference.number_met(net, state, event) not in spared]
+            if events:
+                return events[-1 if kind in highest else 0]
+        return None
+
+    return choose
+
+
+def bare_tick(net, state):
+    """A tick that asks nothing."""
+    return reference.State(state.marking, tuple((0,) + row[:-1] for row in state.counts))
+
+
+def writing(short=0, empty=True, behind=None):
+    """A log written by another reading: its length so many events short, nothing where
+    there is no event, the bytes behind it changed."""
+
+    def write(pairs, buffer):
+        if pairs or empty:
+            image = bytearray(material.encode_log(pairs))
+            image[1:5] = wire.four_bytes(max(5, len(image) - 2 * short))
+            image += b"" if behind is None else bytes([behind]) * (len(buffer) - len(image))
+            buffer[: len(image)] = image
+
+    return write
+
+
+def filling(need):
+    """A log is full where it has fewer bytes of room than so many, or all the events it may have."""
+    return lambda events, room: room - reference.LOG_HEAD - 2 * events < need or events == reference.MAX_EVENTS
+
+
+def telling(*stops):
+    """The stops told in another order."""
+    return {"STOPS": stops}
+
+
+# wrong readings of W2, and what stands in the reference for each
+MISREAD = {
+    "the highest owed end": {"chosen": choosing(highest=(END,))},
+    "the highest enabled start": {"chosen": choosing(highest=(START,))},
+    "a start before an owed end": {"chosen": choosing((START, END, TICK))},
+    "a tick while a start is owed": {"chosen": choosing((END, TICK, START)), "tick_forward": bare_tick},
+    "an end at the sfd": {"chosen": choosing(age="sfd"), "tick_forward": bare_tick},
+    "another start where one meets 14": {"chosen": choosing(spared=(14,))},
+    "another event where an end meets 17": {"chosen": choosing(spared=(17,))},
+    "the budget before rest": telling(2, 1, 3, 4, 5),
+    "a full log before rest": telling(3, 1, 2, 4, 5),
+    "a full log before the budget": telling(1, 3, 2, 4, 5),
+    "14 before the budget": telling(1, 4, 2, 3, 5),
+    "17 before the budget": telling(1, 5, 2, 3, 4),
+    "14 before a full log": telling(1, 2, 4, 3, 5),
+    "17 before a full log": telling(1, 2, 5, 3, 4),
+    "full a byte too early": {"is_full": filling(3)},
+    "full a byte too late": {"is_full": filling(1)},
+    "the log's length one event short": {"write_log": writing(short=1)},
+    "no head without an event": {"write_log": writing(empty=False)},
+    "zeros behind the log": {"write_log": writing(behind=0)},
+    "the state is not written": {"write_state": lambda net, state, buffer: None},
+}
+
+
+@contextlib.contextmanager
+def misread(changes):
+    """The reference with some of it changed."""
+    kept = {name: getattr(reference, name) for name in changes}
+    try:
+        for name, value in changes.items():
+            setattr(reference, name, value)
+        yield
+    finally:
+        for name, value in kept.items():
+            setattr(reference, name, value)
+
+
+def page_kinds(arguments):
+    """The limits that a page comes near, and the choices that it meets."""
+    data, image, room, budget = arguments
+    buffer, log = bytearray(image), bytearray(room)
+    _, _, stop, events, _ = reference.page(data, buffer, log, budget)
+    net = reference.read_net(data)
+    state = begin = reference.read_state(net, image)
+    needed, end = material.page_course(net, begin, 400)
+    spare = len(room) - reference.LOG_HEAD - 2 * needed
+    ends = end != reference.BUDGET_SPENT
+    length = reference.LOG_HEAD + 2 * events
+    kinds = {
+        "the budget is what is needed": ends and budget == needed and spare >= 0,
+        "the budget is one less": ends and budget == needed - 1 and spare >= 0,
+        "the budget is one more": ends and budget == needed + 1 and spare >= 0,
+        "the buffer is what is needed": ends and spare == 0 and budget >= needed,
+        "the buffer is one byte less": ends and spare == -1 and budget >= needed,
+        "the buffer is two bytes less": ends and spare == -2 and budget >= needed,
+        "the buffer is one byte more": ends and spare == 1 and budget >= needed,
+        "the buffer has 5 or 6 bytes": len(room) in (5, 6),
+        "the budget is 0": budget == 0,
+        "nothing is done": events == 0,
+        "40 events or more": events >= 40,
+        "bytes behind the log": len(room) > length,
+        "bytes behind the state": len(image) > reference.state_length(net),
+    }
+    seen = collections.Counter()
+    for pair in reference.read_log(bytes(log[:length])):
+        event = reference.read_event(net, *pair)
+        seen.update(choice_kinds(net, state, event))
+        state = reference.forward(net, state, event)
+        seen["a start fills its count"] += event.kind == START and state.counts[event.transition][0] == reference.MAX_TOKENS
+        seen["an end fills a place"] += event.kind == END and max(state.marking) == reference.MAX_TOKENS
+    if stop == reference.PLACE_FULL:
+        event = reference.chosen(net, state)
+        passed = reference.more(state.marking, net.transitions[event.transition].outputs)
+        seen["an end would pass a limit by one"] += max(passed) == reference.MAX_TOKENS + 1
+    return {**kinds, **{kind: number > 0 for kind, number in seen.items()}}
+
+
+def choice_kinds(net, state, event):
+    """What else might have come in place of the event."""
+    owed = sum(reference.is_due(net, state, t) for t in range(len(net.transitions)))
+    enabled = sum(reference.is_enabled(net, state, t) for t in range(len(net.transitions)))
+    return {
+        "an end of several owed": owed > 1,
+        "an end, a start being owed": owed > 0 and enabled > 0,
+        "an end later than the sfd": event.kind == END and event.age > net.transitions[event.transition].sfd,
+        "a start of several enabled": owed == 0 and enabled > 1,
+        "a start, some firing running": event.kind == START and reference.is_running(state),
+        "a tick, some firing may end": event.kind == TICK and any(
+            any(state.counts[t][row.sfd : row.lfd]) for t, row in enumerate(net.transitions)
+        ),
+        "an event of transition 63": event.transition == 63,
+    }
+
+
 def census(seed, count):
-    """How often each number is told, by call, and 13 by its kinds."""
+    """How often each number is told, by call, 13 by its kinds, and pages by stop, kinds and wrong readings."""
     names = [name for _, name, _ in wire.TABLE]
-    told = collections.Counter()
-    short = collections.Counter()
+    told, short, stops, kinds, wrong = (collections.Counter() for _ in range(5))
     size = 0
     for name, arguments in requests(seed, count):
-        number = int(ask.answer(name, arguments).split()[1])
+        line = ask.answer(name, arguments)
+        number = int(line.split()[1])
         told[number, name] += 1
         if number == 13:
-            kinds = short_kinds(*refused_start(name, arguments))
-            short.update({(kind, name): int(holds) for kind, holds in kinds.items()})
+            found = short_kinds(*refused_start(name, arguments))
+            short.update({(kind, name): int(holds) for kind, holds in found.items()})
+        if name == "page" and number == 0:
+            stops[int(line.split()[3])] += 1
+            kinds.update({kind: int(holds) for kind, holds in page_kinds(arguments).items()})
+            for reading, changes in MISREAD.items():
+                with misread(changes):
+                    wrong[reading] += ask.answer(name, arguments) != line
         size += len(wire.encode(name, *arguments))
     print("number  " + "".join(f"{name:>12}" for name in names) + "       total")
     for number in range(24):
@@ -552,6 +867,15 @@ def census(seed, count):
     print(f"\n{'of 13':44}{'event':>8}{'run':>8}")
     for kind in dict.fromkeys(kind for kind, _ in short):
         print(f"{kind:44}{short[kind, 'event']:8}{short[kind, 'run']:8}")
+    print(f"\n{'stop':44}{'page':>8}")
+    for stop in reference.STOPS:
+        print(f"{stop:<44}{stops[stop]:8}")
+    print(f"\n{'of a page':44}{'page':>8}")
+    for kind, number in kinds.items():
+        print(f"{kind:44}{number:8}")
+    print(f"\n{'a wrong reading changes':44}{'page':>8}")
+    for reading, number in wrong.items():
+        print(f"{reading:44}{number:8}")
 
 
 # ---- the program

@@ -338,6 +338,39 @@ def short_start(rng):
     return net, State(marking, with_counts(net, counts)), t
 
 
+def busy_state(rng, net):
+    """Several ends and several starts may be owed, each more than once."""
+    transitions = range(len(net.transitions))
+    counts = some_counts(rng, net, lambda: rng.randint(1, 3))
+    for t in rng.sample(transitions, rng.randint(0, min(3, len(transitions)))):
+        counts[t, net.transitions[t].lfd] = rng.choice([1, 1, 2, 3])
+    marking = tuple(rng.choice([0, 1, 2, 6]) for _ in net.marking)
+    return State(marking, with_counts(net, counts))
+
+
+def crowded_state(rng, net):
+    """A start fills a count to its limit, or would pass it, as a rule after other events."""
+    t = rng.choice([t for t, row in enumerate(net.transitions) if row.lfd > 0] or [0])
+    counts = some_counts(rng, net, lambda: rng.choice([1, 1, 2, 3]), spare_lfd=rng.random() < 0.7)
+    starts = rng.choice([0, 0, 1, 1, 2])
+    counts[t, 0] = MAX_TOKENS - starts
+    times = starts + rng.choice([0, 1, 1, 1, 2])
+    marking = [times * weight + rng.choice([0, 0, 0, 1, 4]) for weight in net.transitions[t].inputs]
+    return State(tuple(marking), with_counts(net, counts))
+
+
+def brimming_state(rng, net):
+    """An owed end fills a place to its limit, or would pass it, as a rule after other ends."""
+    t = rng.randrange(len(net.transitions))
+    row = net.transitions[t]
+    counts = some_counts(rng, net, lambda: rng.choice([1, 1, 2, 3]))
+    times = counts[t, row.lfd] = rng.choice([1, 2, 3])
+    marking = [rng.choice([0, 1, 5]) for _ in net.marking]
+    p = rng.choice([p for p, weight in enumerate(row.outputs) if weight > 0])
+    marking[p] = MAX_TOKENS - times * row.outputs[p] + rng.choice([0, 0, 1, 1, 1, row.outputs[p]])
+    return State(tuple(marking), with_counts(net, counts))
+
+
 def reached_state(rng, net, steps):
     return accepted_walk(rng, net, reference.initial_state(net), steps)[1]
 
@@ -352,11 +385,6 @@ def any_state(rng, net):
 
 
 # ---- events and logs
-
-
-def as_pair(event):
-    first = {reference.TICK: 0, reference.START: 1, reference.END: 65}[event.kind]
-    return first + event.transition, event.age
 
 
 def number_of(net, state, pair):
@@ -379,7 +407,7 @@ def permitted(net, state):
         if state.counts[t][age] > 0
     ]
     kinds = ([Event(reference.TICK)], starts, ends)
-    return [[as_pair(e) for e in events if number_of(net, state, as_pair(e)) == 0] for events in kinds]
+    return [[reference.bytes_of(e) for e in events if reference.number_met(net, state, e) == 0] for events in kinds]
 
 
 def permitted_pair(rng, net, state):
@@ -473,6 +501,46 @@ def journey(rng):
         if len(pairs) > length // 2:
             break
     return net, begin, pairs, end
+
+
+# ---- pages
+
+
+def page_course(net, state, most):
+    """The events that the page runner does from here, at most so many, and why it stops."""
+    log = bytearray(reference.LOG_HEAD + 2 * most)
+    _, _, stop, events, _ = reference.page(encode_net(net), bytearray(reference.state_image(net, state)), log, most)
+    return events, stop
+
+
+def page_start(rng, kinds):
+    """A net, a state of one of these kinds where a page may begin, and the number of
+    events from there to a stop; where there is none, some number. Pages of no event,
+    and those that do not stop, are mostly put back for another."""
+    for _ in range(4):
+        net = any_net(rng)
+        state = rng.choice(kinds)(rng, net)
+        most = rng.choice([12, 40, 40, 40, 90, 90, 300])
+        events, stop = page_course(net, state, most)
+        if (events > 0 and stop != reference.BUDGET_SPENT) or rng.random() < 0.3:
+            break
+    return net, state, events if stop != reference.BUDGET_SPENT else rng.randint(1, most)
+
+
+def page_bounds(rng, events):
+    """A length of the buffer and a budget: ample for so many events and a stop behind
+    them, or one or both of them about what these need."""
+    exact = reference.LOG_HEAD + 2 * events
+    sizes = [exact, exact, exact, exact + 1, exact + 1, exact - 1, exact - 2, rng.choice([5, 6, 7, rng.randint(5, exact)])]
+    budgets = [events, events, events - 1, events - 1, 0, rng.randint(0, events)]
+    size = exact + rng.choice([2, 2, 3, 9, rng.randint(2, 60)])
+    budget = rng.choice([events + 1, events + 1, events + 100, 65_536, 2**31, 2**32 - 1])
+    tight = rng.choice(["", "", "", "", "size", "size", "size", "budget", "budget", "both"])
+    if tight in ("size", "both"):
+        size = max(reference.LOG_HEAD, rng.choice(sizes))
+    if tight in ("budget", "both"):
+        budget = max(0, rng.choice(budgets))
+    return size, budget
 
 
 # ---- damage

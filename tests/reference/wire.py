@@ -16,6 +16,7 @@ TABLE = (
     (8, "run", ("net", "state", "log")),
     (9, "walk", ("net", "state", "log", "n")),
     (10, "step", ("log", "k")),
+    (11, "page", ("net", "state", "log", "budget")),
 )
 BY_KIND = {kind: (name, parameters) for kind, name, parameters in TABLE}
 BY_NAME = {name: (kind, parameters) for kind, name, parameters in TABLE}
