@@ -1,10 +1,9 @@
-// The requests of menuask for run and walk, answered by all sides.
+// The requests of menuask for run, walk and page, answered by all sides.
 #include "sides.h"
 
 #include <inttypes.h>
 #include <stdio.h>
 #include <stdlib.h>
-#include <string.h>
 
 static int read_number(size_t *v)
 {
@@ -18,7 +17,7 @@ static int read_number(size_t *v)
 // Each slice has an allocation of its own size, so that a checker of memory sees a step beyond it.
 static uint8_t *read_slice(size_t *len)
 {
-    if (!read_number(len) || *len > 65536)
+    if (!read_number(len) || *len > MAX_SLICE)
         return NULL;
     uint8_t *s = malloc(*len ? *len : 1);
     if (s && fread(s, 1, *len, stdin) != *len) {
@@ -29,29 +28,33 @@ static uint8_t *read_slice(size_t *len)
 }
 
 // The parameters of each kind of request: s a slice, n a number (docs/ASK.md).
-static const char *const parameters[] = {"", "s", "ss", "ss", "ssnn", "ssnn", "ssn", "ss", "sss", "sssn", "sn"};
+static const char *const parameters[] = {"", "s", "ss", "ss", "ssnn", "ssnn", "ssn", "ss", "sss", "sssn", "sn", "sssn"};
 
-static void answer_request(uint8_t *slice[3], const size_t size[3], size_t n, int walk)
+static void show(const uint8_t *s, size_t len)
 {
-    Call c = {walk, slice[0], slice[2], slice[1], size[0], size[1], size[2], n, {0}};
-    uint8_t *before = malloc(size[1] + 1), *left = malloc(size[1] + 1);
-    memcpy(before, slice[1], size[1]);
-    agree("a request", &c, before, left);
-    printf(walk ? "walk " : "run ");
+    printf(len ? " " : " -");
+    for (size_t i = 0; i < len; i++)
+        printf("%02x", s[i]);
+}
+
+static void answer_request(uint8_t *slice[3], const size_t size[3], size_t n, Kind kind)
+{
+    Call c = {kind, slice[0], slice[1], slice[2], size[0], size[1], size[2], n, {0}};
+    agree("a request", &c);
+    printf("%s", kind_names[kind]);
     for (size_t i = 0; i < fields(&c); i++)
-        printf("%" PRIu64 " ", c.answer[i]);
-    for (size_t i = 0; i < size[1]; i++)
-        printf("%02x", slice[1][i]);
-    puts(size[1] ? "" : "-");
-    free(before);
-    free(left);
+        printf(" %" PRIu64, c.answer[i]);
+    show(slice[1], size[1]);
+    if (kind == PAGE)
+        show(slice[2], size[2]);
+    puts("");
 }
 
 void ask(void)
 {
     int kind;
     while ((kind = getchar()) != EOF) {
-        if (kind < 1 || kind > 10)
+        if (kind < 1 || kind > 11)
             return;
         uint8_t *slice[3] = {NULL, NULL, NULL};
         size_t size[3] = {0, 0, 0}, number[2] = {0, 0};
@@ -61,8 +64,8 @@ void ask(void)
                 return;
             slices += *p == 's';
         }
-        if (kind == 8 || kind == 9)
-            answer_request(slice, size, number[0], kind == 9);
+        if (kind == 8 || kind == 9 || kind == 11)
+            answer_request(slice, size, number[0], kind == 8 ? RUN : kind == 9 ? WALK : PAGE);
         for (unsigned i = 0; i < 3; i++)
             free(slice[i]);
     }

@@ -1,4 +1,5 @@
-// An ordinary C implementation of two calls of document 01, `run` and `walk`: what the verified engine is measured against.
+// An ordinary C implementation of document 01's `run` and `walk` and of request W2's page: what the verified library is measured
+// against.
 #ifndef MULTEHEI_BASELINE_H
 #define MULTEHEI_BASELINE_H
 
@@ -10,5 +11,8 @@ void baseline_run(const uint8_t *net, size_t net_len, uint8_t *state, size_t sta
                   uint64_t answer[6]);
 void baseline_walk(const uint8_t *net, size_t net_len, uint8_t *state, size_t state_len, const uint8_t *log, size_t log_len,
                    size_t n, uint64_t answer[4]);
+// number, index, stop, events, ticks among them
+void baseline_page(const uint8_t *net, size_t net_len, uint8_t *state, size_t state_len, uint8_t *log, size_t log_len,
+                   size_t budget, uint64_t answer[5]);
 
 #endif

@@ -1,10 +1,10 @@
 // The benchmark of the verified engine against ordinary C, all in this one process and on the same bytes.
 //
 //   bench time [SECONDS]   a table; each line takes about so many seconds (default 3)
-//   bench ask              requests of menuask on standard input: answers those for run and walk as menuask would, and ends with
-//                          1 where the three sides do not agree
+//   bench ask              requests of menuask on standard input: answers those for run, walk and page as menuask would, and ends
+//                          with 1 where the three sides do not agree
 //   bench stack            how deep the calls reach into the stack, for small and large nets
-//   bench once INPUT EVENTS engine|baseline|inplace|nothing run|walk
+//   bench once INPUT EVENTS engine|baseline|inplace|nothing run|walk|page
 //                          one call on an input with so many events and no clock: for whoever counts instructions
 //   bench name INPUT       what the tables call it
 #define _GNU_SOURCE
@@ -24,11 +24,24 @@ static double now(void)
     return (double)t.tv_sec + 1e-9 * (double)t.tv_nsec;
 }
 
-// Times the call on all sides in turn, for about so many seconds, and prints a line with the least time of each. A short call
-// is repeated, and the state put back before each, on all sides alike.
+// A call on an input. A walk takes the whole log back. A page is written to a buffer of its own, as long as a log can be.
+static Call call_of(Kind kind, Input *input, uint8_t *state, size_t budget)
+{
+    static uint8_t page[MAX_LOG];
+    Call c = {kind, input->net, state, input->log, input->net_len, input->state_len, input->log_len, (input->log_len - 5) / 2, {0}};
+    if (kind == PAGE) {
+        c.log = page;
+        c.log_len = sizeof page;
+        c.n = budget;
+    }
+    return c;
+}
+
+// Times the call, whose answer is known, on all sides in turn, for about so many seconds, and prints a line with the least time of
+// each. A short call is repeated, and the state put back before each, on all sides alike.
 static void time_all(const char *name, Call *c, const uint8_t *before, double seconds)
 {
-    size_t events = c->walk ? c->n : (c->log_len - 5) / 2;
+    size_t events = events_told(c);
     unsigned repeats = events < 100 ? 2000 : 1, rounds = 0;
     double least[] = {1e9, 1e9, 1e9}, begin = now();
     do {
@@ -46,11 +59,21 @@ static void time_all(const char *name, Call *c, const uint8_t *before, double se
         }
         rounds++;
     } while (now() - begin < seconds || rounds < 5);
-    printf("| %s | %s | %zu | %.0f |", name, c->walk ? "walk" : "run", events, 100.0 * (double)c->answer[3] / (double)events);
+    printf("| %s | %s | %zu | %.0f |", name, kind_names[c->kind], events, 100.0 * (double)ticks_told(c) / (double)events);
     for (Side side = ENGINE; side < NOTHING; side++)
         printf(" %.1f |", 1e9 * least[side] / (double)events);
     printf(" %.2f | %.2f |\n", least[ENGINE] / least[BASELINE], least[ENGINE] / least[INPLACE]);
     fflush(stdout);
+}
+
+// Does the call on all sides from the state before it, and keeps the state that it leaves.
+static void accepted(const char *name, Call *c, const uint8_t *before, uint8_t *after)
+{
+    memcpy(c->state, before, c->state_len);
+    agree(name, c);
+    if (c->answer[0] != 0)
+        fail("the call is not accepted", name);
+    memcpy(after, c->state, c->state_len);
 }
 
 static void table(double seconds)
@@ -61,17 +84,23 @@ static void table(double seconds)
     printf("| input | call | events | ticks %% | engine | baseline | C in place | engine / baseline | engine / C in place |\n");
     printf("|---|---|---|---|---|---|---|---|---|\n");
     for (unsigned k = 0; make_input(k, 24000, &input); k++) {
-        Call c = {0, input.net, input.log, state, input.net_len, input.state_len, input.log_len, 0, {0}};
-        agree(input.name, &c, input.state, after);
-        if (c.answer[0] != 0)
-            fail("the run is not accepted", input.name);
-        time_all(input.name, &c, input.state, seconds);
-        c.walk = 1;
-        c.n = (input.log_len - 5) / 2;
-        agree(input.name, &c, after, again);
-        if (c.answer[0] != 0 || memcmp(again, input.state, input.state_len) != 0)
-            fail("the walk back is not accepted", input.name);
-        time_all(input.name, &c, after, seconds);
+        if (input.log_len) {
+            Call run = call_of(RUN, &input, state, 0), walk = call_of(WALK, &input, state, 0);
+            accepted(input.name, &run, input.state, after);
+            time_all(input.name, &run, input.state, seconds);
+            accepted(input.name, &walk, after, again);
+            if (memcmp(again, input.state, input.state_len) != 0)
+                fail("the walk back does not end where the run began", input.name);
+            time_all(input.name, &walk, after, seconds);
+        }
+        Call page = call_of(PAGE, &input, state, 24000), check = page;
+        accepted(input.name, &page, input.state, after);
+        check.kind = RUN;
+        check.log_len = 5 + 2 * events_told(&page);
+        accepted(input.name, &check, input.state, again);
+        if (memcmp(again, after, input.state_len) != 0 || ticks_told(&check) != ticks_told(&page))
+            fail("a run of the page does not end where the page ended", input.name);
+        time_all(input.name, &page, input.state, seconds);
     }
 }
 
@@ -106,9 +135,8 @@ static void stack(void)
     printf("Bytes of stack:\n\n| input | call | events | engine | baseline | C in place |\n|---|---|---|---|---|---|\n");
     for (unsigned k = 0; make_input(k, 24000, &input); k++) {
         memcpy(state, input.state, input.state_len);
-        for (int walk = 0; walk < 2; walk++) {
-            Call c = {walk, input.net, input.log, state, input.net_len, input.state_len, input.log_len, 0, {0}};
-            c.n = (input.log_len - 5) / 2;
+        for (Kind kind = input.log_len ? RUN : PAGE; kind <= PAGE; kind++) {
+            Call c = call_of(kind, &input, state, 24000);
             size_t used[NOTHING + 1];
             memcpy(before, state, sizeof state);
             for (Side side = ENGINE; side <= NOTHING; side++) {
@@ -116,12 +144,12 @@ static void stack(void)
                 stack_call = c;
                 used[side] = depth(side);
             }
-            printf("| %s | %s | %zu |", input.name, walk ? "walk" : "run", c.n);
+            // The state that the run leaves is where the walk begins, and where that ends the page begins.
+            call(ENGINE, &c);
+            printf("| %s | %s | %zu |", input.name, kind_names[kind], events_told(&c));
             for (Side side = ENGINE; side < NOTHING; side++)
                 printf(" %zu |", used[side] - used[NOTHING]);
             puts("");
-            // The state that the run leaves is where the walk begins.
-            call(ENGINE, &c);
         }
     }
 }
@@ -135,6 +163,15 @@ static Side side_of(const char *name)
     return NOTHING;
 }
 
+static Kind kind_of(const char *name)
+{
+    for (Kind kind = RUN; kind <= PAGE; kind++)
+        if (strcmp(name, kind_names[kind]) == 0)
+            return kind;
+    fail("no such call", name);
+    return RUN;
+}
+
 static void name(unsigned k)
 {
     static Input input;
@@ -143,16 +180,17 @@ static void name(unsigned k)
     puts(input.name);
 }
 
-static void once(unsigned k, unsigned events, Side side, int walk)
+static void once(unsigned k, unsigned events, Side side, Kind kind)
 {
     static Input input;
-    if (!make_input(k, events, &input))
+    if (!make_input(k, events, &input) || (kind != PAGE && !input.log_len))
         fail("no such input", "once");
-    Call c = {0, input.net, input.log, input.state, input.net_len, input.state_len, input.log_len, (input.log_len - 5) / 2, {0}};
+    Call c = call_of(kind, &input, input.state, events);
     // A walk begins where the run ends.
-    if (walk)
-        call(BASELINE, &c);
-    c.walk = walk;
+    if (kind == WALK) {
+        Call run = call_of(RUN, &input, input.state, 0);
+        call(BASELINE, &run);
+    }
     call(side, &c);
     if (c.answer[0] != 0)
         fail("not accepted", input.name);
@@ -167,7 +205,7 @@ int main(int argc, char **argv)
     else if (argc == 2 && strcmp(argv[1], "stack") == 0)
         stack();
     else if (argc == 6 && strcmp(argv[1], "once") == 0)
-        once((unsigned)atoi(argv[2]), (unsigned)atoi(argv[3]), side_of(argv[4]), strcmp(argv[5], "walk") == 0);
+        once((unsigned)atoi(argv[2]), (unsigned)atoi(argv[3]), side_of(argv[4]), kind_of(argv[5]));
     else if (argc == 3 && strcmp(argv[1], "name") == 0)
         name((unsigned)atoi(argv[2]));
     else {

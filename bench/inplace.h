@@ -1,4 +1,4 @@
-// A second ordinary C implementation of `run` and `walk`, bound as the verified engine is: it works in the lent bytes.
+// A second ordinary C implementation of `run`, `walk` and the page, bound as the verified library is: it works in the lent bytes.
 #ifndef MULTEHEI_INPLACE_H
 #define MULTEHEI_INPLACE_H
 
@@ -10,5 +10,8 @@ void inplace_run(const uint8_t *net, size_t net_len, uint8_t *state, size_t stat
                  uint64_t answer[6]);
 void inplace_walk(const uint8_t *net, size_t net_len, uint8_t *state, size_t state_len, const uint8_t *log, size_t log_len,
                   size_t n, uint64_t answer[4]);
+// number, index, stop, events, ticks among them
+void inplace_page(const uint8_t *net, size_t net_len, uint8_t *state, size_t state_len, uint8_t *log, size_t log_len,
+                  size_t budget, uint64_t answer[5]);
 
 #endif

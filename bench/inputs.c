@@ -1,5 +1,6 @@
-// The nets and logs of the benchmark. Each log is made by playing its net: a start where one is owed, an end where one is owed,
-// and otherwise an end or a tick by the input's own taste, so every log is accepted from the net's initial state.
+// The nets, states and logs of the benchmark. Each log is made by playing its net: a start where one is owed, an end where one is
+// owed, and otherwise an end or a tick by the input's own taste, so every log is accepted from the net's initial state. The inputs for
+// pages alone begin in the state that such a log leads to, so that ages are mixed.
 #include "inputs.h"
 
 #include <stdio.h>
@@ -11,6 +12,12 @@ typedef struct {
     unsigned initial[64], sfd[64], lfd[64];
     uint8_t in[64][64], out[64][64];
 } Plan;
+
+// Where the playing stands.
+static unsigned marking[64], firings;
+static struct {
+    unsigned t, age;
+} firing[65536];
 
 static uint32_t seed;
 
@@ -66,7 +73,7 @@ static void write_plan(const Plan *plan, Input *input)
     memcpy(input->state + 8, input->net + 7, 2 * places);
 }
 
-static int enabled(const Plan *plan, const unsigned *marking, unsigned t)
+static int enabled(const Plan *plan, unsigned t)
 {
     for (unsigned p = 0; p < plan->places; p++)
         if (marking[p] < plan->in[t][p])
@@ -77,16 +84,13 @@ static int enabled(const Plan *plan, const unsigned *marking, unsigned t)
 // Plays the net for so many events. Where nothing is owed, an end is taken in `ends` of 256 cases in which one is possible.
 static void play(const Plan *plan, unsigned events, unsigned ends, Input *input)
 {
-    static struct {
-        unsigned t, age;
-    } firing[65536];
-    unsigned marking[64], firings = 0;
     uint8_t *at = input->log + 5;
     memcpy(marking, plan->initial, sizeof marking);
+    firings = 0;
     for (unsigned k = 0; k < events; k++, at += 2) {
         unsigned found = 0, chosen[64];
         for (unsigned t = 0; t < plan->transitions; t++)
-            if (enabled(plan, marking, t))
+            if (enabled(plan, t))
                 chosen[found++] = t;
         if (found) {
             unsigned t = chosen[pick(found)];
@@ -126,6 +130,19 @@ static void play(const Plan *plan, unsigned events, unsigned ends, Input *input)
     }
     input->log_len = 5 + 2 * (size_t)events;
     begin_form(input->log, input->log_len);
+}
+
+// An input for pages alone: the state is the one that was reached by playing, and there is no log.
+static void stay(const Plan *plan, Input *input)
+{
+    for (unsigned p = 0; p < plan->places; p++)
+        put16(input->state + 8 + 2 * p, marking[p]);
+    uint8_t *clock = input->state + 8 + 2 * plan->places;
+    for (unsigned f = 0; f < firings; f++) {
+        uint8_t *count = clock + 2 * (firing[f].t * input->state[7] + firing[f].age);
+        put16(count, 256u * count[0] + count[1] + 1);
+    }
+    input->log_len = 0;
 }
 
 // The children's row net of document 01. Where it returns its token, filling the row puts a token back for the next load.
@@ -220,6 +237,20 @@ int make_input(unsigned k, unsigned events, Input *input)
         full_plan(&plan, 24);
         write_plan(&plan, input);
         play(&plan, events, 240, input);
+        return 1;
+    case 5:
+        input->name = "64 x 64 x 64, many jobs";
+        rounds_plan(&plan, 320, 1);
+        write_plan(&plan, input);
+        play(&plan, 2000, 240, input);
+        stay(&plan, input);
+        return 1;
+    case 6:
+        input->name = "many jobs, every weight above 0";
+        full_plan(&plan, 320);
+        write_plan(&plan, input);
+        play(&plan, 2000, 240, input);
+        stay(&plan, input);
         return 1;
     }
     return 0;

@@ -1,4 +1,4 @@
-// The nets and logs of the benchmark, made from fixed seeds.
+// The nets, states and logs of the benchmark, made from fixed seeds.
 #ifndef MULTEHEI_INPUTS_H
 #define MULTEHEI_INPUTS_H
 
@@ -13,7 +13,8 @@ typedef struct {
     size_t net_len, state_len, log_len;
 } Input;
 
-// Makes input number k with a log of at most so many events; 0 where there is none.
+// Makes input number k with a log of at most so many events; 0 where there is none. An input for pages alone has no log: its length
+// is 0.
 int make_input(unsigned k, unsigned events, Input *input);
 
 #endif

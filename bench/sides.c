@@ -7,30 +7,38 @@
 #include <stdlib.h>
 #include <string.h>
 
-// The engine's C interface: the crate `menu`.
-void menu_run(const uint8_t *net, size_t net_len, uint8_t *state, size_t state_len, const uint8_t *log, size_t log_len,
-              uint64_t answer[6]);
-void menu_walk(const uint8_t *net, size_t net_len, uint8_t *state, size_t state_len, const uint8_t *log, size_t log_len, size_t n,
-               uint64_t answer[4]);
-
-const char *const side_names[] = {"engine", "baseline", "inplace", "nothing"};
-
 typedef void Run(const uint8_t *, size_t, uint8_t *, size_t, const uint8_t *, size_t, uint64_t[6]);
 typedef void Walk(const uint8_t *, size_t, uint8_t *, size_t, const uint8_t *, size_t, size_t, uint64_t[4]);
+typedef void Page(const uint8_t *, size_t, uint8_t *, size_t, uint8_t *, size_t, size_t, uint64_t[5]);
+
+// The engine's C interface: the crate `menu`.
+Run menu_run;
+Walk menu_walk;
+Page menu_page;
+
+const char *const side_names[] = {"engine", "baseline", "inplace", "nothing"};
+const char *const kind_names[] = {"run", "walk", "page"};
 
 void call(Side side, Call *c)
 {
     static Run *const runs[] = {menu_run, baseline_run, inplace_run};
     static Walk *const walks[] = {menu_walk, baseline_walk, inplace_walk};
+    static Page *const pages[] = {menu_page, baseline_page, inplace_page};
     if (side == NOTHING)
         return;
-    if (c->walk)
+    if (c->kind == RUN)
+        runs[side](c->net, c->net_len, c->state, c->state_len, c->log, c->log_len, c->answer);
+    else if (c->kind == WALK)
         walks[side](c->net, c->net_len, c->state, c->state_len, c->log, c->log_len, c->n, c->answer);
     else
-        runs[side](c->net, c->net_len, c->state, c->state_len, c->log, c->log_len, c->answer);
+        pages[side](c->net, c->net_len, c->state, c->state_len, c->log, c->log_len, c->n, c->answer);
 }
 
-size_t fields(const Call *c) { return c->walk ? 4 : 6; }
+size_t fields(const Call *c) { return c->kind == RUN ? 6 : c->kind == WALK ? 4 : 5; }
+
+size_t events_told(const Call *c) { return c->answer[c->kind == PAGE ? 3 : 2]; }
+
+size_t ticks_told(const Call *c) { return c->answer[c->kind == PAGE ? 4 : 3]; }
 
 void fail(const char *what, const char *name)
 {
@@ -38,21 +46,26 @@ void fail(const char *what, const char *name)
     exit(1);
 }
 
-void agree(const char *name, Call *c, const uint8_t *before, uint8_t *left)
+void agree(const char *name, Call *c)
 {
+    static uint8_t state[MAX_SLICE], log[MAX_SLICE], state_left[MAX_SLICE], log_left[MAX_SLICE];
     uint64_t told[6];
     size_t size = fields(c) * sizeof told[0];
-    memcpy(c->state, before, c->state_len);
-    // A field that a side does not write is seen.
-    memset(c->answer, 0xa5, sizeof c->answer);
-    call(ENGINE, c);
-    memcpy(left, c->state, c->state_len);
-    memcpy(told, c->answer, size);
-    for (Side side = BASELINE; side < NOTHING; side++) {
-        memcpy(c->state, before, c->state_len);
+    memcpy(state, c->state, c->state_len);
+    memcpy(log, c->log, c->log_len);
+    for (Side side = ENGINE; side < NOTHING; side++) {
+        memcpy(c->state, state, c->state_len);
+        memcpy(c->log, log, c->log_len);
+        // A field that a side does not write is seen.
         memset(c->answer, 0xa5, sizeof c->answer);
         call(side, c);
-        if (memcmp(told, c->answer, size) == 0 && memcmp(left, c->state, c->state_len) == 0)
+        if (side == ENGINE) {
+            memcpy(state_left, c->state, c->state_len);
+            memcpy(log_left, c->log, c->log_len);
+            memcpy(told, c->answer, size);
+        }
+        if (memcmp(told, c->answer, size) == 0 && memcmp(state_left, c->state, c->state_len) == 0
+            && memcmp(log_left, c->log, c->log_len) == 0)
             continue;
         fprintf(stderr, "bench: %s on ", side_names[side]);
         fail("not the engine's answer and bytes", name);

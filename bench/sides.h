@@ -10,24 +10,34 @@ typedef enum { ENGINE, BASELINE, INPLACE, NOTHING } Side;
 
 extern const char *const side_names[NOTHING + 1];
 
-// One call. A run asks for no number of events; n is told for a walk alone. A walk tells the first four fields of the answer.
+typedef enum { RUN, WALK, PAGE } Kind;
+
+extern const char *const kind_names[PAGE + 1];
+
+// The longest state or log that is held together.
+enum { MAX_SLICE = 65536 };
+
+// One call. A page alone writes the log. n is the number of events that a walk takes back, and the budget of a page.
 typedef struct {
-    int walk;
-    const uint8_t *net, *log;
-    uint8_t *state;
+    Kind kind;
+    const uint8_t *net;
+    uint8_t *state, *log;
     size_t net_len, state_len, log_len, n;
     uint64_t answer[6];
 } Call;
 
-// How many fields the call tells.
+// How many fields the call tells, and two of them.
 size_t fields(const Call *c);
+size_t events_told(const Call *c);
+size_t ticks_told(const Call *c);
 
 void call(Side side, Call *c);
 
 void fail(const char *what, const char *name);
 
-// Does the call once on each side and holds the answers and the bytes left together. The state left is put into `left`.
-void agree(const char *name, Call *c, const uint8_t *before, uint8_t *left);
+// Does the call once on each side, each time from the bytes that stand in the call's buffers, and holds the answers and the bytes
+// left together. These stay in the buffers.
+void agree(const char *name, Call *c);
 
 // Requests of menuask on standard input, answered on standard output (docs/ASK.md).
 void ask(void);

@@ -8,8 +8,8 @@
 #include <stdlib.h>
 
 #include "menu.h"
-#if MENU_INTERFACE != 2
-#error "this program is written for interface 2 of menu.h"
+#if MENU_INTERFACE != 3
+#error "this program is written for interface 3 of menu.h"
 #endif
 
 typedef struct slice {
@@ -69,11 +69,11 @@ static void tell(const char *name, const void *answer, size_t size)
 }
 
 /* The whole buffer as the call left it. */
-static void show_state(void)
+static void show(const slice *s)
 {
-    printf(state.length == 0 ? " -" : " ");
-    for (size_t i = 0; i < state.length; i++)
-        printf("%02x", state.bytes[i]);
+    printf(s->length == 0 ? " -" : " ");
+    for (size_t i = 0; i < s->length; i++)
+        printf("%02x", s->bytes[i]);
 }
 
 static void answer_net(void)
@@ -90,7 +90,7 @@ static void answer_initial(void)
 
     menu_initial(net.bytes, net.length, state.bytes, state.length, &told);
     tell("initial", &told, sizeof told);
-    show_state();
+    show(&state);
 }
 
 static void answer_state(void)
@@ -108,7 +108,7 @@ static void answer_event(void)
 
     menu_event(net.bytes, net.length, state.bytes, state.length, first, second, &told);
     tell("event", &told, sizeof told);
-    show_state();
+    show(&state);
 }
 
 static void answer_back(void)
@@ -118,7 +118,7 @@ static void answer_back(void)
 
     menu_back(net.bytes, net.length, state.bytes, state.length, first, second, &told);
     tell("back", &told, sizeof told);
-    show_state();
+    show(&state);
 }
 
 static void answer_degree(void)
@@ -144,7 +144,7 @@ static void answer_run(void)
     read_slice(&events);
     menu_run(net.bytes, net.length, state.bytes, state.length, events.bytes, events.length, &told);
     tell("run", &told, sizeof told);
-    show_state();
+    show(&state);
 }
 
 static void answer_walk(void)
@@ -154,7 +154,7 @@ static void answer_walk(void)
     read_slice(&events);
     menu_walk(net.bytes, net.length, state.bytes, state.length, events.bytes, events.length, read_number(), &told);
     tell("walk", &told, sizeof told);
-    show_state();
+    show(&state);
 }
 
 static void answer_step(void)
@@ -166,8 +166,20 @@ static void answer_step(void)
     tell("step", &told, sizeof told);
 }
 
+static void answer_page(void)
+{
+    menu_page_told told;
+
+    read_slice(&events);
+    menu_page(net.bytes, net.length, state.bytes, state.length, events.bytes, events.length, read_number(), &told);
+    tell("page", &told, sizeof told);
+    show(&state);
+    show(&events);
+}
+
 static void (*const calls[])(void) = {
-    answer_net, answer_initial, answer_state, answer_event, answer_back, answer_degree, answer_owed, answer_run, answer_walk, answer_step,
+    answer_net,  answer_initial, answer_state, answer_event, answer_back, answer_degree,
+    answer_owed, answer_run,     answer_walk,  answer_step,  answer_page,
 };
 
 int main(void)
@@ -175,12 +187,12 @@ int main(void)
     int call;
 
     while ((call = getchar()) != EOF) {
-        if (call < 1 || call > 10)
+        if (call < 1 || call > 11)
             bad_request();
         /* all but the step begin with a net, and all of these but the first go on with a state */
-        if (call < 10)
+        if (call != 10)
             read_slice(&net);
-        if (call > 1 && call < 10)
+        if (call != 10 && call != 1)
             read_slice(&state);
         calls[call - 1]();
         printf("\n");

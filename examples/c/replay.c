@@ -10,16 +10,11 @@
 #include <stdlib.h>
 
 #include "menu.h"
-#if MENU_INTERFACE != 2
-#error "this program is written for interface 2 of menu.h"
+#if MENU_INTERFACE != 3
+#error "this program is written for interface 3 of menu.h"
 #endif
 
-static const uint8_t row_net[] = {
-    1, 0, 0, 0, MENU_NET_BYTES(3, 2), 3, 2, /* version, length, three places, two transitions */
-    0, 1, 0, 0, 0, 0,                       /* a token in place 0 */
-    1, 3, 1, 0, 0, 0, 1, 0,                 /* 0 loads the own file: 1 to 3 ticks, from place 0 to place 1 */
-    0, 0, 0, 1, 0, 0, 0, 1,                 /* 1 fills the row: at once, from place 1 to place 2 */
-};
+#include "row.h"
 
 static const uint8_t row_log[] = {
     1, 0, 0, 0, MENU_LOG_BYTES(5), /* version, length */
