@@ -1,34 +1,9 @@
 // The requests of menuask for run, walk and page, answered by all sides.
+#include "requests.h"
 #include "sides.h"
 
 #include <inttypes.h>
 #include <stdio.h>
-#include <stdlib.h>
-
-static int read_number(size_t *v)
-{
-    uint8_t b[4];
-    if (fread(b, 1, 4, stdin) != 4)
-        return 0;
-    *v = (size_t)b[0] << 24 | (size_t)b[1] << 16 | (size_t)b[2] << 8 | b[3];
-    return 1;
-}
-
-// Each slice has an allocation of its own size, so that a checker of memory sees a step beyond it.
-static uint8_t *read_slice(size_t *len)
-{
-    if (!read_number(len) || *len > MAX_SLICE)
-        return NULL;
-    uint8_t *s = malloc(*len ? *len : 1);
-    if (s && fread(s, 1, *len, stdin) != *len) {
-        free(s);
-        return NULL;
-    }
-    return s;
-}
-
-// The parameters of each kind of request: s a slice, n a number (docs/ASK.md).
-static const char *const parameters[] = {"", "s", "ss", "ss", "ssnn", "ssnn", "ssn", "ss", "sss", "sssn", "sn", "sssn"};
 
 static void show(const uint8_t *s, size_t len)
 {
@@ -37,36 +12,25 @@ static void show(const uint8_t *s, size_t len)
         printf("%02x", s[i]);
 }
 
-static void answer_request(uint8_t *slice[3], const size_t size[3], size_t n, Kind kind)
+static void answer_request(const Request *r, Kind kind)
 {
-    Call c = {kind, slice[0], slice[1], slice[2], size[0], size[1], size[2], n, {0}};
+    Call c = {kind, r->slice[0], r->slice[1], r->slice[2], r->size[0], r->size[1], r->size[2], r->number[0], {0}};
     agree("a request", &c);
     printf("%s", kind_names[kind]);
     for (size_t i = 0; i < fields(&c); i++)
         printf(" %" PRIu64, c.answer[i]);
-    show(slice[1], size[1]);
+    show(c.state, c.state_len);
     if (kind == PAGE)
-        show(slice[2], size[2]);
+        show(c.log, c.log_len);
     puts("");
 }
 
 void ask(void)
 {
-    int kind;
-    while ((kind = getchar()) != EOF) {
-        if (kind < 1 || kind > 11)
-            return;
-        uint8_t *slice[3] = {NULL, NULL, NULL};
-        size_t size[3] = {0, 0, 0}, number[2] = {0, 0};
-        unsigned slices = 0, numbers = 0;
-        for (const char *p = parameters[kind]; *p; p++) {
-            if (*p == 'n' ? !read_number(&number[numbers++]) : !(slice[slices] = read_slice(&size[slices])))
-                return;
-            slices += *p == 's';
-        }
-        if (kind == 8 || kind == 9 || kind == 11)
-            answer_request(slice, size, number[0], kind == 8 ? RUN : kind == 9 ? WALK : PAGE);
-        for (unsigned i = 0; i < 3; i++)
-            free(slice[i]);
+    Request r;
+    while (read_request(&r)) {
+        if (r.call == RUN_LOG || r.call == WALK_LOG || r.call == MAKE_PAGE)
+            answer_request(&r, r.call == RUN_LOG ? RUN : r.call == WALK_LOG ? WALK : PAGE);
+        free_request(&r);
     }
 }

@@ -9,13 +9,13 @@
 //   bench name INPUT       what the tables call it
 #define _GNU_SOURCE
 #include "inputs.h"
+#include "painted.h"
 #include "sides.h"
 
 #include <stdio.h>
 #include <stdlib.h>
 #include <string.h>
 #include <time.h>
-#include <ucontext.h>
 
 static double now(void)
 {
@@ -104,28 +104,13 @@ static void table(double seconds)
     }
 }
 
-// The stack is painted before the call; what is no longer paint afterwards was used.
-static uint8_t painted[1 << 17];
-static ucontext_t here, there;
 static Side stack_side;
 static Call stack_call;
 
-static void on_painted_stack(void) { call(stack_side, &stack_call); }
-
-static size_t depth(Side side)
+static void make_call(void)
 {
-    memset(painted, 0xa5, sizeof painted);
-    getcontext(&there);
-    there.uc_stack.ss_sp = painted;
-    there.uc_stack.ss_size = sizeof painted;
-    there.uc_link = &here;
-    stack_side = side;
-    makecontext(&there, on_painted_stack, 0);
-    swapcontext(&here, &there);
-    size_t low = 0;
-    while (low < sizeof painted && painted[low] == 0xa5)
-        low++;
-    return sizeof painted - low;
+    FROM_HERE();
+    call(stack_side, &stack_call);
 }
 
 static void stack(void)
@@ -142,7 +127,8 @@ static void stack(void)
             for (Side side = ENGINE; side <= NOTHING; side++) {
                 memcpy(state, before, sizeof state);
                 stack_call = c;
-                used[side] = depth(side);
+                stack_side = side;
+                used[side] = stack_taken(make_call);
             }
             // The state that the run leaves is where the walk begins, and where that ends the page begins.
             call(ENGINE, &c);

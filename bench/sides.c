@@ -2,6 +2,7 @@
 
 #include "baseline.h"
 #include "inplace.h"
+#include "requests.h"
 
 #include <stdio.h>
 #include <stdlib.h>

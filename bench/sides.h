@@ -14,9 +14,6 @@ typedef enum { RUN, WALK, PAGE } Kind;
 
 extern const char *const kind_names[PAGE + 1];
 
-// The longest state or log that is held together.
-enum { MAX_SLICE = 65536 };
-
 // One call. A page alone writes the log. n is the number of events that a walk takes back, and the budget of a page.
 typedef struct {
     Kind kind;
