@@ -2,7 +2,7 @@
  * The calls of the menu engine and of its page runner, for C (C99 and later) and C++.
  *
  * Link with libmenu.a, which is compiled for x86-64 Linux. The functions are proved: whatever bytes it is given, each answers and
- * writes exactly what the scope of the build (document 01, with requests W1 and W2) says, and ends. What a caller needs of it stands
+ * writes exactly what the scope of the build (document 01, with requests W1 to W3) says, and ends. What a caller needs of it stands
  * here; docs/C.md is a page on how to use the functions.
  *
  * STORED FORMS. All numbers are big-endian. Each form begins with a version byte, 1, and the length of the whole form in 4 bytes.
@@ -70,9 +70,9 @@
  * all these budgets: its events are theirs one behind the other, its ticks theirs added up, its stop the last one's, its state the one
  * that is left. That page's log must have room for these events and, with stops 4 and 5, for one more.
  *
- * The functions keep nothing from one call to the next, have no data that is written, use no heap and do no input or output. A call
- * takes less than 512 bytes of stack. So threads and signal handlers may call them at any time, each with a state, an answer and, for
- * menu_page, a log of its own.
+ * The functions keep nothing from one call to the next, have no data that is written, use no heap, need no second state and do no
+ * input or output. A call takes at most 512 bytes of stack, whatever the net; docs/C.md tells what each takes. So threads and signal
+ * handlers may call them at any time, each with a state, an answer and, for menu_page, a log of its own.
  */
 #ifndef MENU_H
 #define MENU_H
