@@ -3,6 +3,8 @@
 // pages alone begin in the state that such a log leads to, so that ages are mixed.
 #include "inputs.h"
 
+#include "forms.h"
+
 #include <stdio.h>
 #include <stdlib.h>
 #include <string.h>
@@ -28,21 +30,6 @@ static uint32_t pick(uint32_t below)
     return (seed >> 8) % below;
 }
 
-static void put16(uint8_t *s, unsigned v)
-{
-    s[0] = (uint8_t)(v >> 8);
-    s[1] = (uint8_t)v;
-}
-
-static void begin_form(uint8_t *s, size_t length)
-{
-    s[0] = 1;
-    s[1] = (uint8_t)(length >> 24);
-    s[2] = (uint8_t)(length >> 16);
-    s[3] = (uint8_t)(length >> 8);
-    s[4] = (uint8_t)length;
-}
-
 // The net and its initial state as bytes.
 static void write_plan(const Plan *plan, Input *input)
 {
@@ -60,13 +47,13 @@ static void write_plan(const Plan *plan, Input *input)
             longest = plan->lfd[t];
     }
     input->net_len = (size_t)(at - input->net);
-    begin_form(input->net, input->net_len);
+    put_head(input->net, input->net_len);
     input->net[5] = (uint8_t)places;
     input->net[6] = (uint8_t)transitions;
 
     input->state_len = 8 + 2 * places + 2 * transitions * (longest + 1);
     memset(input->state, 0, input->state_len);
-    begin_form(input->state, input->state_len);
+    put_head(input->state, input->state_len);
     input->state[5] = (uint8_t)places;
     input->state[6] = (uint8_t)transitions;
     input->state[7] = (uint8_t)(longest + 1);
@@ -129,7 +116,7 @@ static void play(const Plan *plan, unsigned events, unsigned ends, Input *input)
         at[0] = at[1] = 0;
     }
     input->log_len = 5 + 2 * (size_t)events;
-    begin_form(input->log, input->log_len);
+    put_head(input->log, input->log_len);
 }
 
 // An input for pages alone: the state is the one that was reached by playing, and there is no log.
@@ -216,7 +203,7 @@ int make_input(unsigned k, unsigned events, Input *input)
         row_plan(&plan, 1);
         write_plan(&plan, input);
         input->log_len = 5 + 10 * (events / 5);
-        begin_form(input->log, input->log_len);
+        put_head(input->log, input->log_len);
         for (unsigned i = 5; i < input->log_len; i += 10)
             memcpy(input->log + i, row_log + 5, 10);
         return 1;

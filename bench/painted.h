@@ -5,7 +5,8 @@
 #include <stddef.h>
 #include <stdint.h>
 
-// Says where the caller's stack pointer is. It stands before the call in the function that makes it.
+// Says where the caller's stack pointer is. It stands before the call in the function that makes it, and the compiler must put what is
+// handed over on the stack there after it, as gcc does.
 #define FROM_HERE() __asm__ volatile("mov %%rsp, %0" : "=m"(caller_stack))
 
 extern uintptr_t caller_stack;

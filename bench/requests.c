@@ -4,8 +4,8 @@
 #include <stdlib.h>
 #include <string.h>
 
-// The parameters of each kind of request: s a slice, n a number.
-static const char *const parameters[] = {"", "s", "ss", "ss", "ssnn", "ssnn", "ssn", "ss", "sss", "sssn", "sn", "sssn"};
+// The parameters of each kind of request: s a slice, n a number, b a number that is a byte.
+static const char *const parameters[] = {"", "s", "ss", "ss", "ssbb", "ssbb", "ssn", "ss", "sss", "sssn", "sn", "sssn"};
 
 static int read_number(size_t *v)
 {
@@ -37,9 +37,11 @@ int read_request(Request *r)
         return 0;
     unsigned slices = 0, numbers = 0;
     for (const char *p = parameters[r->call]; *p; p++) {
-        if (*p == 'n' ? !read_number(&r->number[numbers++]) : !(r->slice[slices] = read_slice(&r->size[slices])))
+        if (*p == 's' ? !(r->slice[slices] = read_slice(&r->size[slices])) : !read_number(&r->number[numbers]))
             return 0;
-        slices += *p == 's';
+        if (*p == 'b' && r->number[numbers] > 255)
+            return 0;
+        *p == 's' ? slices++ : numbers++;
     }
     return 1;
 }

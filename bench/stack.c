@@ -2,8 +2,9 @@
 //
 //   stack <REQUESTS    requests of menuask
 //
-// A line for each function: its name, the most bytes of all calls on the smallest net, of the same calls on the largest, and of those
-// that the requests ask for.
+// A line with the number of requests, and one for each function: its name, the most bytes of all calls on the smallest net, of the same
+// calls on the largest, and of those that the requests ask for.
+#include "forms.h"
 #include "menu.h"
 #include "painted.h"
 #include "requests.h"
@@ -68,13 +69,6 @@ static uint8_t net[MENU_NET_BYTES_MAX], state[MENU_STATE_BYTES_MAX], events[MENU
 static size_t net_length, state_length, log_length;
 static unsigned places, transitions, longest;
 
-static void begin_form(uint8_t *s, size_t length)
-{
-    s[0] = 1;
-    for (unsigned i = 0; i < 4; i++)
-        s[1 + i] = (uint8_t)(length >> (24 - 8 * i));
-}
-
 // The net: every transition takes a token from every place and gives it one, and lasts 0 to `longest` ticks. Each place begins with one.
 static void make_net(unsigned p, unsigned t, unsigned lfd)
 {
@@ -84,7 +78,7 @@ static void make_net(unsigned p, unsigned t, unsigned lfd)
     net_length = MENU_NET_BYTES(p, t);
     state_length = MENU_STATE_BYTES(p, t, lfd + 1);
     memset(net, 1, net_length);
-    begin_form(net, net_length);
+    put_head(net, net_length);
     net[5] = (uint8_t)p;
     net[6] = (uint8_t)t;
     for (unsigned i = 0; i < p; i++)
@@ -108,7 +102,7 @@ static void make_log(void)
         at[2 * (longest + 1) + 1] = (uint8_t)longest;
     }
     log_length = MENU_LOG_BYTES(k);
-    begin_form(events, log_length);
+    put_head(events, log_length);
 }
 
 // A call on copies of the state and of so many bytes of the log, so that each finds the same bytes.
@@ -210,6 +204,7 @@ static void keep(size_t kept[LAST_CALL + 1])
 int main(void)
 {
     size_t smallest[LAST_CALL + 1], largest[LAST_CALL + 1];
+    unsigned requests = 0;
     Request r;
     // the shortest net, with the shortest state, and with the shortest in which a tick can pass
     calls_on_net(1, 1, 0);
@@ -217,10 +212,11 @@ int main(void)
     keep(smallest);
     calls_on_net(MENU_PLACES_MAX, MENU_TRANSITIONS_MAX, MENU_TICKS_MAX);
     keep(largest);
-    while (read_request(&r)) {
+    for (; read_request(&r); requests++) {
         measure(r);
         free_request(&r);
     }
+    printf("requests %u\n", requests);
     for (int call = CHECK_NET; call <= LAST_CALL; call++)
         printf("menu_%s %zu %zu %zu\n", names[call], smallest[call], largest[call], most[call]);
     return 0;
