@@ -2,7 +2,7 @@
  * The calls of the menu engine and of its page runner, for C (C99 and later) and C++.
  *
  * Link with libmenu.a, which is compiled for x86-64 Linux. The functions are proved: whatever bytes it is given, each answers and
- * writes exactly what the scope of the build (document 01, with requests W1 to W3) says, and ends. What a caller needs of it stands
+ * writes exactly what the scope of the build (document 01, with requests W1 to W4) says, and ends. What a caller needs of it stands
  * here; docs/C.md is a page on how to use the functions.
  *
  * STORED FORMS. All numbers are big-endian. Each form begins with a version byte, 1, and the length of the whole form in 4 bytes.
@@ -23,7 +23,7 @@
  *
  * EVENTS. A transition is enabled where every place holds at least its input weight. A start takes the input weights from the
  * marking and begins a firing, of age 0. An end takes away one firing of its transition and age, and the output weights join the
- * marking. A tick makes every firing one tick older. When each is refused is said at numbers 11 to 21.
+ * marking. A tick makes every firing one tick older. When each is refused is said at numbers 11 to 27.
  *
  * A PAGE is a log that menu_page writes. It chooses an event, does it, writes it, and goes on: the end of a firing at its lfd, of the
  * lowest transition that has one; where there is none, the start of the lowest transition that is enabled; where there is none
@@ -94,8 +94,8 @@ extern "C" {
  * without MENU_INTERFACE is interface 1. A program that names the interface it is written for is not compiled with another:
  *
  *     #include "menu.h"
- *     #if MENU_INTERFACE != 3
- *     #error "this program is written for interface 3 of menu.h"
+ *     #if MENU_INTERFACE != 4
+ *     #error "this program is written for interface 4 of menu.h"
  *     #endif
  *
  * Take header and library from one version. The linker does not see that a library is of another interface, and such a library may
@@ -103,7 +103,7 @@ extern "C" {
  * may only warn.
  */
 
-#define MENU_INTERFACE 3
+#define MENU_INTERFACE 4
 
 /* LIMITS */
 
@@ -133,6 +133,9 @@ extern "C" {
  * NUMBERS, the field `number` of each answer. Of several faults the first is told: of the net, the room for an initial state, the
  * state, the log or the room for it, the request, and then event by event. `index` is the transition for 4, 5, 6 and 9, and otherwise
  * 0 but for a run and a walk.
+ *
+ * Of an event taken back 11 and 12 are told first; then of a tick 21, 18, 20, of a start 24, 25, of an end 15, 26, 27, in this order.
+ * Each of these says why no lawful state leads here by the event, and one of them is told exactly where none does.
  */
 enum menu_number {
     MENU_ACCEPTED = 0,
@@ -156,13 +159,18 @@ enum menu_number {
     MENU_NOT_ENABLED = 13,         /* start: some place has fewer tokens than the input weight; `place` is the lowest such place, and
                                       `shortage` the weight minus its tokens. This number alone tells the two */
     MENU_COUNT_FULL = 14,          /* start: the count at age 0 is 65,535 */
-    MENU_OUTSIDE_INTERVAL = 15,    /* end: the age is below sfd or above lfd */
+    MENU_OUTSIDE_INTERVAL = 15,    /* end, also taken back: the age is below sfd or above lfd */
     MENU_NONE_OF_THAT_AGE = 16,    /* end: no firing of that age runs */
     MENU_PLACE_FULL = 17,          /* end: a place would pass 65,535 tokens */
-    MENU_TICK_START_OWED = 18,     /* tick: a transition is enabled, and must start first */
+    MENU_TICK_START_OWED = 18,     /* tick: a transition is enabled, and must start first; taken back: a transition is enabled */
     MENU_TICK_END_OWED = 19,       /* tick: a firing is at its lfd, and must end first */
-    MENU_NOTHING_RUNNING = 20,     /* tick: nothing is running */
-    MENU_NO_STATE_BEFORE = 21,     /* back: no lawful state leads here by this event */
+    MENU_NOTHING_RUNNING = 20,     /* tick, also taken back: nothing is running */
+    /* an event taken back; 21 and 24 to 27 are told of nothing else */
+    MENU_SOME_FRESH = 21,          /* tick taken back: a firing has age 0, and a tick leaves none */
+    MENU_NONE_STARTED = 24,        /* start taken back: no firing of the transition has age 0 */
+    MENU_PLACE_OVERFULL = 25,      /* start taken back: a place would have held more than 65,535 tokens before it */
+    MENU_TOO_FEW_TOKENS = 26,      /* end taken back: a place holds fewer tokens than the end gave it */
+    MENU_COUNT_OVERFULL = 27,      /* end taken back: the count at that age is 65,535, and would have been one more before it */
     /* the request */
     MENU_TOO_MANY = 22,            /* walk: more events asked than the log has */
     MENU_NO_SUCH_STEP = 23         /* step: the log has no such step */
@@ -269,7 +277,7 @@ void menu_check_state(const uint8_t *net, size_t net_length, const uint8_t *stat
 void menu_event(const uint8_t *net, size_t net_length, uint8_t *state, size_t state_length, uint8_t first, uint8_t second,
                 menu_event_told *answer);
 
-/* Takes one event back: leaves the only state that leads here by it. Tells 0 to 6, 8, 9, 11, 12, 21. */
+/* Takes one event back: leaves the only state that leads here by it. Tells 0 to 6, 8, 9, 11, 12, 15, 18, 20, 21, 24 to 27. */
 void menu_back(const uint8_t *net, size_t net_length, uint8_t *state, size_t state_length, uint8_t first, uint8_t second,
                menu_verdict *answer);
 
@@ -284,7 +292,8 @@ void menu_owed(const uint8_t *net, size_t net_length, const uint8_t *state, size
 void menu_run(const uint8_t *net, size_t net_length, uint8_t *state, size_t state_length, const uint8_t *log, size_t log_length,
               menu_run_told *answer);
 
-/* Takes the last n events of a log back, the last one first, and stops at the first that cannot be. Tells 0 to 6, 8 to 12, 21, 22. */
+/* Takes the last n events of a log back, the last one first, and stops at the first that cannot be. Tells 0 to 6, 8 to 12, 15, 18,
+ * 20 to 22, 24 to 27. */
 void menu_walk(const uint8_t *net, size_t net_length, uint8_t *state, size_t state_length, const uint8_t *log, size_t log_length,
                size_t n, menu_told *answer);
 

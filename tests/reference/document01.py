@@ -1,9 +1,9 @@
 #!/usr/bin/env python3
 """The cases that document 01 itself gives, on the children's row net, and cases of
-requests W1 and W2, whose answers are worked out by hand.
+requests W1, W2 and W4, whose answers are worked out by hand.
 
 usage: document01.py          writes them as requests, in the document's order,
-                              those without a K first, those of W1 and W2 last,
+                              those without a K first, those of the requests last,
                               without the longest
        document01.py --check  tells whether the reference answers as they say
 """
@@ -58,7 +58,7 @@ BEFORE_LAST = state([0, 0, 0], {(1, 0): 1})
 # title, call, arguments, fields of the answer, buffer afterwards (None: not shown; of a page state and log)
 REMAINING = [
     ("start 0 taken back, place 0 at 65,535", "back", [NET, state([65535, 0, 0], {(0, 0): 1}), *START_0],
-     (21, 0), state([65535, 0, 0], {(0, 0): 1})),
+     (25, 0), state([65535, 0, 0], {(0, 0): 1})),
     ("step 0 of the log", "step", [LOG, 0], (0, 0, 5, 2), None),
     ("step 1 of the log", "step", [LOG, 1], (0, 0, 9, 6), None),
     ("step 2 of the log", "step", [LOG, 2], (23, 0, 0, 0), None),
@@ -86,7 +86,7 @@ PROVED = [
     ("K8", "run", [NET, INITIAL, log(*K1, TICK)], (20, 5, 5, 1, 0, 0), FINAL),
     ("K9", "back", [NET, FINAL, *end_1(0)], (0, 0), BEFORE_LAST),
     ("K9, as a walk", "walk", [NET, FINAL, LOG, 1], (0, 4, 1, 0), BEFORE_LAST),
-    ("K10", "back", [NET, INITIAL, *TICK], (21, 0), INITIAL),
+    ("K10", "back", [NET, INITIAL, *TICK], (18, 0), INITIAL),
     ("K11", "event", [NET, state([0, 65534, 0], {(0, 1): 1}), *end_0(1)],
      (0, 0, 0, 0), state([0, 65535, 0])),
     ("K12", "event", [NET, state([0, 65535, 0], {(0, 1): 1}), *end_0(1)],
@@ -140,7 +140,7 @@ SHORT = [
      (13, 2, 2, 0, 2, 1), four(2, 0, 6, 90, count=2)),
     ("the third start, place 3, and events behind it", "run", [FOUR, four(9, 0, 21, 600), THRICE_AND_MORE],
      (13, 2, 2, 0, 3, 165), four(5, 0, 7, 90, count=2)),
-    ("a start taken back that was never done", "back", [FOUR, four(1, 0, 6, 90), *START_0], (21, 0), four(1, 0, 6, 90)),
+    ("a start taken back that was never done", "back", [FOUR, four(1, 0, 6, 90), *START_0], (24, 0), four(1, 0, 6, 90)),
     ("the last of 64 places", "event", [WIDE, wide([1] * 63 + [0]), *START_0], (13, 0, 63, 1), wide([1] * 63 + [0])),
     ("the ninth of 64 places", "event", [WIDE, wide([1] * 8 + [0] * 56), *START_0],
      (13, 0, 8, 1), wide([1] * 8 + [0] * 56)),
@@ -148,9 +148,66 @@ SHORT = [
 ]
 
 
+def back(title, net, before, pair, number, after=None):
+    """An event taken back; a refused one leaves the state as it was."""
+    return title, "back", [net, before, *pair], (number, 0), before if after is None else after
+
+
+def stopped(title, before, pairs, told, after):
+    """A walk over all these events; told are number, index, events done and ticks."""
+    return title, "walk", [NET, before, log(*pairs), len(pairs)], told, after
+
+
+CROWDED = {(0, 0): 65535}
+FULL_AGE_1 = {(0, 1): 65535}
+
+# W4: in the row net start 0 takes from place 0 and end 0, at ages 1 to 3, gives to place 1
+BARRED = [
+    back("a tick, a firing of age 1", NET, state([0, 0, 0], {(0, 1): 1}), TICK, 0, state([0, 0, 0], {(0, 0): 1})),
+    back("a tick, an end is owed", NET, state([0, 0, 0], {(0, 3): 1}), TICK, 0, state([0, 0, 0], {(0, 2): 1})),
+    back("a tick, a firing of age 0", NET, state([0, 0, 0], {(0, 0): 1}), TICK, 21),
+    back("a tick, firings of ages 0 and 1", NET, state([0, 0, 0], {(0, 0): 1, (0, 1): 1}), TICK, 21),
+    back("a tick, a firing of age 0 of the last transition", NET, state([0, 0, 0], {(0, 1): 1, (1, 0): 1}), TICK, 21),
+    back("a tick, a firing of age 0 and an enabled transition: 21 before 18", NET, state([1, 0, 0], {(0, 0): 1}), TICK, 21),
+    back("a tick, an enabled transition", NET, state([1, 0, 0], {(0, 1): 1}), TICK, 18),
+    back("a tick, an enabled transition and an owed end", NET, state([0, 1, 0], {(0, 3): 1}), TICK, 18),
+    back("a tick, an enabled transition and nothing running: 18 before 20", NET, state([0, 1, 0]), TICK, 18),
+    back("a tick, nothing running", NET, FINAL, TICK, 20),
+    back("a start, place 0 at 65,534", NET, state([65534, 0, 0], {(0, 0): 1}), START_0, 0, state([65535, 0, 0])),
+    back("a start, no firing", NET, INITIAL, START_0, 24),
+    back("a start, a firing of age 1", NET, state([0, 0, 0], {(0, 1): 1}), START_0, 24),
+    back("a start, a firing of another transition", NET, state([0, 0, 0], {(1, 0): 1}), START_0, 24),
+    back("a start, no firing and place 0 at 65,535: 24 before 25", NET, state([65535, 0, 0]), START_0, 24),
+    back("a start, the last of its places would have held 65,536", FOUR, four(0, 0, 0, 65281, count=1), START_0, 25),
+    back("a start, that place would have held 65,535, and one of weight 0 is full", FOUR, four(0, 65535, 0, 65280, count=1), START_0,
+         0, four(2, 65535, 7, 65535)),
+    back("an end, 65,534 firings of its age", NET, state([0, 1, 0], {(0, 1): 65534}), end_0(1), 0, state([0, 0, 0], FULL_AGE_1)),
+    back("an end, 65,535 firings of another age", NET, state([0, 1, 0], FULL_AGE_1), end_0(2), 0, state([0, 0, 0], {**FULL_AGE_1, (0, 2): 1})),
+    back("an end below its interval", NET, state([0, 1, 0]), end_0(0), 15),
+    back("an end above its interval", NET, state([0, 1, 0]), end_0(4), 15),
+    back("an end of another transition, above its own lfd alone", NET, FINAL, end_1(1), 15),
+    back("an end far above, and no token: 15 before 26", NET, INITIAL, end_0(255), 15),
+    back("an end below, and a full count: 15 before 27", NET, state([0, 1, 0], CROWDED), end_0(0), 15),
+    back("an end, no token", NET, INITIAL, end_0(1), 26),
+    back("an end, no token and a full count: 26 before 27", NET, state([1, 0, 0], FULL_AGE_1), end_0(1), 26),
+    back("an end, a full count", NET, state([0, 1, 0], FULL_AGE_1), end_0(1), 27),
+    back("11 before all", NET, state([0, 0, 0], {(0, 0): 1}), (0, 1), 11),
+    back("12 before 24", NET, INITIAL, (3, 0), 12),
+    back("12 before 15", NET, INITIAL, (67, 255), 12),
+    stopped("a walk, 26 at once", INITIAL, K1, (26, 4, 0, 0), INITIAL),
+    stopped("a walk, 20 at once", FINAL, [TICK], (20, 0, 0, 0), FINAL),
+    stopped("a walk, 21 behind a tick", state([0, 0, 0], {(0, 1): 1}), [TICK, TICK], (21, 0, 1, 1), state([0, 0, 0], {(0, 0): 1})),
+    stopped("a walk, 18 behind a start and a tick", state([0, 0, 0], {(0, 1): 1}), [START_0, TICK, START_0, TICK], (18, 1, 2, 1), INITIAL),
+    stopped("a walk, 24 behind a tick", state([0, 0, 0], {(0, 1): 1}), [START_1, TICK], (24, 0, 1, 1), state([0, 0, 0], {(0, 0): 1})),
+    stopped("a walk, 25 behind a start", state([65534, 0, 0], {(0, 0): 2}), [START_0, START_0],
+            (25, 0, 1, 0), state([65535, 0, 0], {(0, 0): 1})),
+    stopped("a walk, 15 behind a start", BEFORE_LAST, [end_0(0), START_1], (15, 0, 1, 0), state([0, 1, 0])),
+    stopped("a walk, 27 behind an end", state([0, 2, 0], {(0, 1): 65534}), [end_0(1), end_0(1)], (27, 0, 1, 0), state([0, 1, 0], FULL_AGE_1)),
+]
+
+
 ROW_PAGE = [START_0, TICK, TICK, TICK, end_0(3), START_1, end_1(0)]
 DUE = {(0, 3): 1}
-CROWDED = {(0, 0): 65535}
 
 
 def room(size):
@@ -295,7 +352,7 @@ UNWRITTEN = [
     refused_page("a buffer of 4 bytes, at rest, budget 0", 10, 0, FINAL, 4, 0),
 ]
 
-CASES = REMAINING + PROVED + SHORT + WRITTEN + UNWRITTEN
+CASES = REMAINING + PROVED + SHORT + BARRED + WRITTEN + UNWRITTEN
 
 # these are checked and compared, but not stored
 LONGEST = [
@@ -406,7 +463,7 @@ def check():
 if __name__ == "__main__":
     if sys.argv[1:] == ["--check"]:
         count, wrong = check()
-        print(f"{count - len(wrong)} of {count} as document 01, W1 and W2 say")
+        print(f"{count - len(wrong)} of {count} as document 01, W1, W2 and W4 say")
         for title in wrong:
             print(f"differs: {title}")
         sys.exit(1 if wrong else 0)

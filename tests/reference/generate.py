@@ -3,8 +3,9 @@
 
 usage: generate.py SEED COUNT [--bad-end]    writes COUNT requests, and with --bad-end a bad one last
        generate.py SEED COUNT --census       counts the reference's answers instead, by number and call, those of 13
-                                             by what its place and shortage tell apart, and pages by stop, by the
-                                             limits that they come near, and by the wrong readings that they show
+                                             by what its place and shortage tell apart, and pages by stop and by the
+                                             limits that they come near; of pages, steps back and walks those that
+                                             each wrong reading changes
        generate.py --menurun SEED N DIR      writes N inputs of `menurun` as files of that folder
 """
 
@@ -120,6 +121,20 @@ def back_requests(rng):
     else:
         pair = rng.choice(material.candidate_pairs(rng, net))
     yield "back", [stored(net), buffer_of(rng, net, state), *pair]
+
+
+def barred_requests(rng):
+    """An event that cannot be taken back, each of W4's numbers as likely as another: alone, or in a
+    walk that stops there behind accepted events."""
+    net, state, pair = material.barred_step(rng, rng.choice(sorted(material.BARRED)))
+    if rng.random() < 0.6:
+        yield "back", [stored(net), buffer_of(rng, net, state), *pair]
+    else:
+        before = [rng.choice(material.candidate_pairs(rng, net)) for _ in range(rng.choice([0, 1, 4]))]
+        behind, end = material.accepted_walk(rng, net, state, rng.choice([1, 2, 5, 20]))
+        pairs = before + [pair] + behind
+        n = rng.randint(len(behind) + 1, len(pairs))
+        yield "walk", [stored(net), buffer_of(rng, net, end), material.encode_log(pairs), n]
 
 
 def degree_requests(rng):
@@ -304,10 +319,11 @@ SCENARIOS = (
     (initial_requests, 4),
     (state_requests, 6),
     (event_requests, 10),
-    (limit_requests, 14),
+    (limit_requests, 19),
     (short_requests, 6.5),
     (tick_requests, 6),
     (back_requests, 8),
+    (barred_requests, 20),
     (degree_requests, 4),
     (owed_requests, 6),
     (tall_requests, 5),
@@ -745,8 +761,8 @@ def telling(*stops):
     return {"STOPS": stops}
 
 
-# wrong readings of W2, and what stands in the reference for each
-MISREAD = {
+# wrong readings of W2 and of W4, and what stands in the reference for each
+MISREAD_PAGE = {
     "the highest owed end": {"chosen": choosing(highest=(END,))},
     "the highest enabled start": {"chosen": choosing(highest=(START,))},
     "a start before an owed end": {"chosen": choosing((START, END, TICK))},
@@ -767,6 +783,36 @@ MISREAD = {
     "no head without an event": {"write_log": writing(empty=False)},
     "zeros behind the log": {"write_log": writing(behind=0)},
     "the state is not written": {"write_state": lambda net, state, buffer: None},
+}
+
+
+def wrapping(write):
+    """Writes each number of a state modulo 65,536, as where no limit is asked."""
+
+    def wrapped(row):
+        return tuple(value % 65_536 for value in row)
+
+    return lambda net, state, buffer: write(net, reference.State(wrapped(state.marking), tuple(map(wrapped, state.counts))), buffer)
+
+
+def barring(kind, *numbers):
+    """The numbers of that kind of event told in another order, or fewer of them."""
+    return {"BARRIERS": {**reference.BARRIERS, kind: numbers}, "write_state": wrapping(reference.write_state)}
+
+
+MISREAD_BACK = {
+    "a tick: 18 before 21": barring(TICK, 18, 21, 20),
+    "a tick: 20 before 18": barring(TICK, 21, 20, 18),
+    "a tick: age 0 not asked": barring(TICK, 18, 20),
+    "a tick: the marking not asked": barring(TICK, 21, 20),
+    "a tick: taken back to where nothing ran": barring(TICK, 21, 18),
+    "a start: 25 before 24": barring(START, 25, 24),
+    "a start: a full place not asked": barring(START, 24),
+    "an end: 26 before 15": barring(END, 26, 15, 27),
+    "an end: 27 before 15": barring(END, 27, 15, 26),
+    "an end: 27 before 26": barring(END, 15, 27, 26),
+    "an end: too few tokens not asked": barring(END, 15, 27),
+    "an end: a full count not asked": barring(END, 15, 26),
 }
 
 
@@ -840,8 +886,17 @@ def choice_kinds(net, state, event):
     }
 
 
+def readings(name, number):
+    """The wrong readings to try on a request of that call which tells the number."""
+    if name == "page" and number == 0:
+        return MISREAD_PAGE.items()
+    if name in ("back", "walk") and (number == 0 or number > 12):
+        return MISREAD_BACK.items()
+    return ()
+
+
 def census(seed, count):
-    """How often each number is told, by call, 13 by its kinds, and pages by stop, kinds and wrong readings."""
+    """How often each number is told, by call, 13 by its kinds, pages by stop and kinds, and what wrong readings change."""
     names = [name for _, name, _ in wire.TABLE]
     told, short, stops, kinds, wrong = (collections.Counter() for _ in range(5))
     size = 0
@@ -855,12 +910,12 @@ def census(seed, count):
         if name == "page" and number == 0:
             stops[int(line.split()[3])] += 1
             kinds.update({kind: int(holds) for kind, holds in page_kinds(arguments).items()})
-            for reading, changes in MISREAD.items():
-                with misread(changes):
-                    wrong[reading] += ask.answer(name, arguments) != line
+        for reading, changes in readings(name, number):
+            with misread(changes):
+                wrong[reading, name] += ask.answer(name, arguments) != line
         size += len(wire.encode(name, *arguments))
     print("number  " + "".join(f"{name:>12}" for name in names) + "       total")
-    for number in range(24):
+    for number in range(28):
         row = [told[number, name] for name in names]
         print(f"{number:6}  " + "".join(f"{value or '.':>12}" for value in row) + f"{sum(row):12}")
     print(f"{count} requests, {size} bytes")
@@ -874,8 +929,11 @@ def census(seed, count):
     for kind, number in kinds.items():
         print(f"{kind:44}{number:8}")
     print(f"\n{'a wrong reading changes':44}{'page':>8}")
-    for reading, number in wrong.items():
-        print(f"{reading:44}{number:8}")
+    for reading in MISREAD_PAGE:
+        print(f"{reading:44}{wrong[reading, 'page']:8}")
+    print(f"\n{'a wrong reading changes':44}{'back':>8}{'walk':>8}")
+    for reading in MISREAD_BACK:
+        print(f"{reading:44}{wrong[reading, 'back']:8}{wrong[reading, 'walk']:8}")
 
 
 # ---- the program

@@ -297,8 +297,51 @@ def end_back_at_limit(rng, net):
     row = net.transitions[t]
     age = rng.randint(row.sfd, row.lfd)
     counts = some_counts(rng, net, lambda: edge_value(rng))
-    counts[t, age] = rng.choice([0, 0, 1, 65_534, 65_535])
+    counts[t, age] = rng.choice([0, 1, 65_534, 65_535, 65_535])
     return State(emptied(rng, row.outputs), with_counts(net, counts)), (65 + t, age)
+
+
+def tick_back(rng, net):
+    """A state of any kind, from which a tick is to be taken back."""
+    make = rng.choice([just_ticked_state, just_ticked_state, quiet_state, small_state, wild_state])
+    return make(rng, net), (0, 0)
+
+
+def end_back_outside(rng, net):
+    """The same for an end at an age just outside the interval, or far; below it the count may be full."""
+    state, (first, _) = end_back_at_limit(rng, net)
+    t = first - 65
+    row = net.transitions[t]
+    age = rng.choice([max(row.sfd - 1, 0), max(row.sfd - 1, 0), row.lfd + 1, net.depth, 255])
+    if age < row.sfd and rng.random() < 0.6:
+        full = reference.with_count(state.counts, t, age, MAX_TOKENS - state.counts[t][age])
+        state = state._replace(counts=full)
+    return state, (first, age)
+
+
+# what makes a state from which the step back may be refused by the number
+BARRED = {
+    15: end_back_outside,
+    18: tick_back,
+    20: tick_back,
+    21: tick_back,
+    24: start_back_at_limit,
+    25: start_back_at_limit,
+    26: end_back_at_limit,
+    27: end_back_at_limit,
+}
+
+
+def barred_step(rng, number):
+    """A net, a state, and an event that is refused by the number when it is taken back from there."""
+    while True:
+        net = any_net(rng)
+        state, pair = BARRED[number](rng, net)
+        try:
+            reference.backward(net, state, reference.read_event(net, *pair))
+        except reference.Refused as refused:
+            if refused.number == number:
+                return net, state, pair
 
 
 def short_row(rng, places):

@@ -14,7 +14,6 @@ use Rattle.model.specs.declared.answer.Answer.{Answer}
 use Rattle.model.specs.declared.answer.Answer.the-variants as answer
 use Rattle.model.specs.Answer.{Telling, tellingOfRefusal, tellingOf, numberOf as numberOfAnswer, numberOfRefusal}
 use Rattle.model.specs.Net.{Net, State, Lawful}
-use Rattle.model.specs.Refusals.{Unfit, Barred}
 use Rattle.model.specs.Rules.{Outcome, done, refused, answerOf}
 use Rattle.model.specs.Run.{RunTold as RunAccount, WalkTold as WalkAccount, Leads, stay, RunCloses, WalkCloses, Walked, lastOf, ticksIn}
 use Rattle.model.specs.Run.{tooMany, run, walk}
@@ -82,13 +81,6 @@ pub is-barred : {N : Net} {b : List ℕ} {o : Outcome} {r : Verdict} {b′ : Lis
     → ((w : Refusal) → o ≡ refused w → ¬ (numberOfRefusal w ≡ 13))
     → (why : Refusal) → r ≡ answered (answer.Refused why) → o ≡ refused why
 is-barred {o = o} c other why e = number-refused o why other (ap (λ (x : Verdict). x .number) (sym (c .said) ∙ e))
-
--- 11, 12 and 21 are not 13
-pub barred-other : {N : Net} {S : State} {e : Event} {why : Refusal} → Barred N S e why → ¬ (numberOfRefusal why ≡ 13)
-barred-other (Barred.unfit Unfit.malformed) z = omega arith
-barred-other (Barred.unfit (Unfit.no-such-start a)) z = omega arith
-barred-other (Barred.unfit (Unfit.no-such-end a)) z = omega arith
-barred-other (Barred.no-state-before f none) z = omega arith
 
 -- RUNS AND WALKS OF THE MODEL
 

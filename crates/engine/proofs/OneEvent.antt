@@ -12,11 +12,11 @@ use Rattle.model.specs.declared.answer.Refusal.the-variants as refusal
 use Rattle.model.specs.declared.answer.Answer.{Answer}
 use Rattle.model.specs.declared.answer.Answer.the-variants as answer
 use Rattle.model.specs.Event.{eventOf}
-use Rattle.model.specs.Refusals.{Refuses, FallsShort}
+use Rattle.model.specs.Refusals.{Refuses, FallsShort, Barred}
 use Rattle.model.specs.Net.{Net, State, Lawful}
 use Rattle.model.proofs.Forward.{apply-exact}
 use Rattle.model.proofs.Back.{back-exact}
-use Rattle.model.proofs.Refusals.{apply-refuses, falls-short, short-told, back-refuses}
+use Rattle.model.proofs.Refusals.{apply-refuses, falls-short, short-told, back-refuses, barred-other, no-state-before}
 use Rattle.model.specs.Rules.{answerOf, apply}
 use Rattle.model.proofs.Lacking.{just-short}
 use Rattle.model.proofs.Tellings.{no-place}
@@ -31,11 +31,11 @@ use Rattle.forms.proofs.Frames.{written-framed}
 use Rattle.moves.proofs.Undone.{apply-framed, back-framed, undone, redone}
 use Rattle.engine.specs.declared.answers.Verdict.{Verdict}
 use Rattle.engine.specs.declared.answers.EventTold.{EventTold}
-use Rattle.engine.specs.Answers.{eventAnswered}
+use Rattle.engine.specs.Answers.{answered, eventAnswered}
 use Rattle.engine.specs.Said.{saysEvent}
 use Rattle.engine.specs.Calls.{eventTold, eventLeft, backTold, backLeft}
 use Rattle.engine.specs.Demands.{LeavesState, EventDone, EventBack}
-use Rattle.engine.proofs.Courses.{is-done, on-done, is-refused, is-barred, barred-other, on-refused, on-none}
+use Rattle.engine.proofs.Courses.{is-done, on-done, is-refused, is-barred, on-refused, on-none}
 use Rattle.engine.proofs.PastChecks.{fits-state, event-comes, back-comes}
 
 module _ (net : List ℕ) (shape : Shape) (b : List ℕ) (f : Framed net shape b) (small : Bytes b) where
@@ -129,6 +129,11 @@ module _ (net : List ℕ) (shape : Shape) (b : List ℕ) (f : Framed net shape b
     pub event-back : EventBack net b first second (backTold net b first second) (backLeft net b first second)
     event-back =
         let c = back-comes net shape b f first second in
+        let told : (why : Refusal) → (backTold net b first second ≡ answered (answer.Refused why)) ↔ Barred N S e why =
+        λ why. (
+          (λ z. back-refuses N S e why .0 (is-barred c (λ w d. barred-other (back-refuses N S e w .0 d)) why z)),
+          λ h. on-refused c why (back-refuses N S e why .1 h),
+        ) in
         record {
           permitted = (
             (λ z.
@@ -140,9 +145,12 @@ module _ (net : List ℕ) (shape : Shape) (b : List ℕ) (f : Framed net shape b
           done = λ S₀ s₀ m.
               let (a, w) = on-done c S₀ (back-exact N S lawful e S₀ .1 (s₀, m)) in
               (a, leaves (backLeft net b first second) S₀ s₀ w);
-          refused = λ why. (
-            (λ z. back-refuses N S lawful e why .0 (is-barred c (λ w d. barred-other (back-refuses N S lawful e w .0 d)) why z)),
-            λ h. on-refused c why (back-refuses N S lawful e why .1 h),
+          refused = told;
+          no-state-before = (
+            (λ (why, z, behind). no-state-before N S lawful e .0 (why, back-refuses N S e why .1 (told why .0 z), behind)),
+            λ none.
+                let (why, r, behind) = no-state-before N S lawful e .1 none in
+                (why, on-refused c why r, behind),
           );
           kept = on-none c backNumber (λ a. refl);
           undone = event-undone;

@@ -99,7 +99,7 @@ cases =
     ∷ runs rowState (log 0x11 (0x01 ∷ 0x00 ∷ 0x00 ∷ 0x00 ∷ 0x41 ∷ 0x01 ∷ 0x02 ∷ 0x00 ∷ 0x42 ∷ 0x00 ∷ 0x00 ∷ 0x00 ∷ [])) (saysRun 20 5 5 1 noPlace)
     filled 4
     ∷ undoes filled 0x42 0x00 0 (rowStateWith noMarks noCounts atAge0)
-    ∷ undoes rowState 0x00 0x00 21 rowState
+    ∷ undoes rowState 0x00 0x00 18 rowState
     ∷ does (loaded 0xFF 0xFE) 0x41 0x01 0 (rowStateWith (marks 0x00 0x00 0xFF 0xFF 0x00 0x00) noCounts noCounts)
     ∷ does (loaded 0xFF 0xFF) 0x41 0x01 17 (loaded 0xFF 0xFF)
     ∷ []
@@ -155,8 +155,8 @@ pub record Further : Type 0 where
   pub uncut : stepTold cutLog 1 ≡ saysStep 0 0 7 2
   pub empty-last : stepTold cutLog 2 ≡ saysStep 0 0 11 0
   pub step-of-no-log : stepTold newLog 0 ≡ saysStep 10 0 0 0
-  -- start 0 taken back with place 0 at 65,535 and one count at age 0: 21
-  pub full-back : (backTold rowNet fullPlace0 0x01 0x00 ≡ says 21 0) × (backLeft rowNet fullPlace0 0x01 0x00 ≡ fullPlace0)
+  -- start 0 taken back with place 0 at 65,535 and one count at age 0: 25
+  pub full-back : (backTold rowNet fullPlace0 0x01 0x00 ≡ says 25 0) × (backLeft rowNet fullPlace0 0x01 0x00 ≡ fullPlace0)
   -- step 0 of the log is 01 00; step 1 is 41 01 02 00 42 00; step 2 is refused by 23
   pub step-0 : (stepTold rowLog 0 ≡ saysStep 0 0 5 2) × (partOf (stepTold rowLog 0) ≡ 0x01 ∷ 0x00 ∷ [])
   pub step-1 : (stepTold rowLog 1 ≡ saysStep 0 0 9 6) × (partOf (stepTold rowLog 1) ≡ 0x41 ∷ 0x01 ∷ 0x02 ∷ 0x00 ∷ 0x42 ∷ 0x00 ∷ [])
@@ -176,7 +176,7 @@ pub record Further : Type 0 where
       × (walkLeft rowNet filled rowLog 2 ≡ rowStateWith (marks 0x00 0x00 0x00 0x01 0x00 0x00) noCounts noCounts)
   pub six-back : (walkTold rowNet filled rowLog 6 ≡ saysWalk 22 0 0 0) × (walkLeft rowNet filled rowLog 6 ≡ filled)
   -- a walk that stops: the last event cannot have led to the initial state
-  pub none-back : (walkTold rowNet rowState rowLog 5 ≡ saysWalk 21 4 0 0) × (walkLeft rowNet rowState rowLog 5 ≡ rowState)
+  pub none-back : (walkTold rowNet rowState rowLog 5 ≡ saysWalk 26 4 0 0) × (walkLeft rowNet rowState rowLog 5 ≡ rowState)
   -- a state with a count above its transition's lfd
   pub overdue-state : stateTold rowNet overdue ≡ says 9 1
   pub overdue-event : (eventTold rowNet overdue 0x00 0x00 ≡ saysEvent 9 1 noPlace) × (eventLeft rowNet overdue 0x00 0x00 ≡ overdue)

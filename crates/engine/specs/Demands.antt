@@ -5,7 +5,7 @@
 use mathlib.Core.Path.{_≡_}
 use mathlib.Core.Logic.{_↔_}
 use mathlib.Core.List.{List, _++_}
-use Prim.Native.Nat.{ℕ, _+_, _-_, _<_, _≤_}
+use Prim.Native.Nat.{ℕ, suc, _+_, _-_, _<_, _≤_}
 use lib.ListN.{length, take}
 use Rattle.model.specs.declared.net.Net.{Net as Shape}
 use Rattle.model.specs.declared.answer.Short.{Short}
@@ -16,10 +16,10 @@ use Rattle.model.specs.Event.{eventOf}
 use Rattle.model.specs.Tab.{Tells}
 use Rattle.model.specs.Net.{State, Lawful}
 use Rattle.model.specs.Moves.{Degree, Moves}
-use Rattle.model.specs.Refusals.{Refuses, FallsShort, JustShort, Barred}
-use Rattle.model.specs.Run.{RunTold as RunAccount, WalkTold as WalkAccount, Leads, Ran, Walked, eventAt, lastOf, ticksIn}
+use Rattle.model.specs.Refusals.{Unfit, Refuses, FallsShort, JustShort, Barred}
+use Rattle.model.specs.Run.{RunTold as RunAccount, WalkTold as WalkAccount, Leads, Ran, Walked, eventAt, eventBefore, lastOf, ticksIn}
 use Rattle.model.specs.Owed.{OwesStart, OwesEnd, HowMany, wordBits, Lowest, Stands}
-use Rattle.model.specs.Demands.{SomeLeads}
+use Rattle.model.specs.Demands.{SomeLeads, NoStateBefore}
 use Rattle.forms.specs.declared.fault.Fault.{Fault}
 use Rattle.forms.specs.declared.fault.Checked.the-variants as checked
 use Rattle.forms.specs.Checked.{numberOfFault, indexOfFault}
@@ -149,15 +149,23 @@ pub record EventBack (net b : List ℕ) (first second : ℕ) (r : Verdict) (b′
   -- and that state is left, so there is never a second one
   pub done : (S : State) → Lawful (netOf net) S → Moves (netOf net) S (eventOf first second) (stored net b)
       → (r ≡ says 0 0) × LeavesState net b b′ S
-  -- each refusal is told exactly when document 01 says
+  -- each refusal is told exactly when request W4 says
   pub refused : (why : Refusal) → (r ≡ says (numberOfRefusal why) 0) ↔ Barred (netOf net) (stored net b) (eventOf first second) why
-  -- and then no byte changes
+  -- and behind 11 and 12 one is told exactly if no lawful state leads here
+  pub no-state-before : ((why : Refusal) × (r ≡ says (numberOfRefusal why) 0) × ¬ Unfit (netOf net) (eventOf first second) why)
+      ↔ NoStateBefore (netOf net) (stored net b) (eventOf first second)
+  -- and where it is refused no byte changes
   pub kept : ¬ (r .number ≡ 0) → b′ ≡ b
   -- an accepted event taken back gives every byte back, and one taken back and done again too
   pub undone : eventTold net b first second .number ≡ 0
       → (backTold net (eventLeft net b first second) first second .number ≡ 0)
       × (backLeft net (eventLeft net b first second) first second ≡ b)
   pub redone : r .number ≡ 0 → (eventTold net b′ first second .number ≡ 0) × (eventLeft net b′ first second ≡ b)
+
+-- a refusal stops a walk of the log behind k events, in S: so r tells, and b′ is what it leaves of b
+abbrev pub StopsBehind : (net b log : List ℕ) (k : ℕ) → Refusal → State → WalkTold → List ℕ → Type 0
+StopsBehind net b log k why S r b′ =
+    (r ≡ saysWalk (numberOfRefusal why) (length (logEvents log) - suc k) k (ticksIn (lastOf k (logEvents log)))) × LeavesState net b b′ S
 
 -- the last n events of a log taken back from the state that stands in b
 pub record LogBack (net b log : List ℕ) (n : ℕ) (r : WalkTold) (b′ : List ℕ) : Type 0 where
@@ -172,6 +180,16 @@ pub record LogBack (net b log : List ℕ) (n : ℕ) (r : WalkTold) (b′ : List 
       × LeavesState net b b′ S
   -- what is told of any walk, accepted or refused, is exact, and the state where it stops is left
   pub told : (S : State) × Walked (netOf net) (stored net b) (logEvents log) n (accountOfWalk r S) × LeavesState net b b′ S
+  -- a refusal stops it behind k events, in S, exactly if S is lawful, they lead from S here, and S bars the event before them
+  pub refused : n ≤ length (logEvents log) → (k : ℕ) (why : Refusal) (S : State)
+      → StopsBehind net b log k why S r b′
+      ↔ ((k < n) × Lawful (netOf net) S × Leads (netOf net) S (lastOf k (logEvents log)) (stored net b)
+      × Barred (netOf net) S (eventBefore (logEvents log) k) why)
+  -- and behind 11 and 12 one does exactly if no lawful state leads to S by that event
+  pub no-state-before : n ≤ length (logEvents log) → (k : ℕ) (S : State)
+      → ((why : Refusal) × StopsBehind net b log k why S r b′ × ¬ Unfit (netOf net) (eventBefore (logEvents log) k) why)
+      ↔ ((k < n) × Lawful (netOf net) S × Leads (netOf net) S (lastOf k (logEvents log)) (stored net b)
+      × NoStateBefore (netOf net) S (eventBefore (logEvents log) k))
   -- 22: more events are asked than the log has, and no byte changes
   pub too-many : length (logEvents log) < n → (r ≡ saysWalk 22 0 0 0) × (b′ ≡ b)
 

@@ -79,7 +79,7 @@ pub fn event(net: &[u8], state: &mut [u8], first: u8, second: u8) -> EventTold
     }
 }
 
-// Takes one event back: 1 to 6, 8, 9, 11, 12, 21.
+// Takes one event back: 1 to 6, 8, 9, 11, 12, 15, 18, 20, 21, 24 to 27.
 pub fn back(net: &[u8], state: &mut [u8], first: u8, second: u8) -> Verdict
     ensures { λ r. ⌜ r ≡ backTold (now (net .entry)) (now (state .entry)) first second ⌝ }
     ensures { λ _. ⌜ now (state .exit) ≡ backLeft (now (net .entry)) (now (state .entry)) first second ⌝ }
@@ -138,7 +138,7 @@ pub fn run(net: &[u8], state: &mut [u8], log: &[u8]) -> RunTold
     }
 }
 
-// Walks the last n events of a log back: 1 to 6, 8 to 12, 21, 22.
+// Walks the last n events of a log back: 1 to 6, 8 to 12, 15, 18, 20 to 22, 24 to 27.
 pub fn walk(net: &[u8], state: &mut [u8], log: &[u8], n: usize) -> WalkTold
     ensures { λ r. ⌜ r ≡ walkTold (now (net .entry)) (now (state .entry)) (now (log .entry)) n ⌝ }
     ensures { λ _. ⌜ now (state .exit) ≡ walkLeft (now (net .entry)) (now (state .entry)) (now (log .entry)) n ⌝ }

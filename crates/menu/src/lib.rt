@@ -67,7 +67,7 @@ pub extern "C" fn menu_event(
     ];
 }
 
-// Takes one event back: 1 to 6, 8, 9, 11, 12, 21.
+// Takes one event back: 1 to 6, 8, 9, 11, 12, 15, 18, 20, 21, 24 to 27.
 #[no_mangle]
 pub extern "C" fn menu_back(
     net: &[u8],
@@ -135,7 +135,7 @@ pub extern "C" fn menu_run(net: &[u8], state: &mut [u8], log: &[u8], answer: &mu
     ];
 }
 
-// Walks the last n events of a log back: 1 to 6, 8 to 12, 21, 22.
+// Walks the last n events of a log back: 1 to 6, 8 to 12, 15, 18, 20 to 22, 24 to 27.
 #[no_mangle]
 pub extern "C" fn menu_walk(
     net: &[u8],

@@ -7,11 +7,12 @@ use native.Mathlib.Omega.{arith}
 use Rattle.model.specs.declared.age.Age.{Age}
 use Rattle.model.specs.declared.event.Event.{Event}
 use Rattle.model.specs.declared.event.Event.the-variants as event
+use Rattle.model.specs.declared.answer.Barrier.the-variants as barrier
 use Rattle.model.specs.declared.answer.Refusal.the-variants as refusal
 use Rattle.model.specs.Limits.{Held, tokenLimit}
 use Rattle.model.specs.Net.{Net, State, Lawful, width, count}
-use Rattle.model.specs.Moves.{NoStartOwed, NothingRunning, Timely, HasRoom, Starts, Ends, Ticks, Moves}
-use Rattle.model.specs.Rules.{done, apply, back, Covers, NoneFresh, unstarted, unended, unticked}
+use Rattle.model.specs.Moves.{NoStartOwed, NothingRunning, Timely, HasRoom, Covers, NoneFresh, Starts, Ends, Ticks, Moves}
+use Rattle.model.specs.Rules.{done, apply, back, unstarted, unended, unticked}
 use Rattle.model.proofs.Tab.{below-or-past, one-here, one-off, one-le, one-room}
 use Rattle.model.proofs.Tests.{leb-tells, ltb-tells, not-tells, held-tells, timely-tells, no-start-owed-tells}
 use Rattle.model.proofs.Tests.{nothing-running-tells, has-room-tells, covers-tells, none-fresh-tells, unless-done, done-is, never}
@@ -27,8 +28,8 @@ module _ (N : Net) (S′ S : State) where
   unfolding back
   start-passes t =
       unless-done refusal.NoSuchTransition (ltb-tells t (N .transitions))
-      (unless-done refusal.NoStateBefore (leb-tells 1 (count S′ t 0))
-      (unless-done refusal.NoStateBefore (has-room-tells N S′ (N .takes t)) (done-is (unstarted N S′ t) S)))
+      (unless-done (refusal.OnlyBack barrier.NoneStarted) (leb-tells 1 (count S′ t 0))
+      (unless-done (refusal.OnlyBack barrier.PlaceOverfull) (has-room-tells N S′ (N .takes t)) (done-is (unstarted N S′ t) S)))
 
   end-passes : (t : ℕ) (age : Age) → (back N S′ (event.End t age) ≡ done S)
       ↔ ((t < N .transitions) × (Timely N t (age .0)
@@ -36,17 +37,17 @@ module _ (N : Net) (S′ S : State) where
   unfolding back
   end-passes t age =
       unless-done refusal.NoSuchTransition (ltb-tells t (N .transitions))
-      (unless-done refusal.NoStateBefore (timely-tells N t (age .0))
-      (unless-done refusal.NoStateBefore (covers-tells N S′ (N .gives t))
-      (unless-done refusal.NoStateBefore (held-tells (suc (count S′ t (age .0)))) (done-is (unended N S′ t (age .0)) S))))
+      (unless-done refusal.OutsideInterval (timely-tells N t (age .0))
+      (unless-done (refusal.OnlyBack barrier.TooFewTokens) (covers-tells N S′ (N .gives t))
+      (unless-done (refusal.OnlyBack barrier.CountOverfull) (held-tells (suc (count S′ t (age .0)))) (done-is (unended N S′ t (age .0)) S))))
 
   tick-passes : (back N S′ event.Tick ≡ done S)
       ↔ (NoneFresh N S′ × (NoStartOwed N S′ × ((¬ NothingRunning N S′) × (unticked N S′ ≡ S))))
   unfolding back
   tick-passes =
-      unless-done refusal.NoStateBefore (none-fresh-tells N S′)
-      (unless-done refusal.NoStateBefore (no-start-owed-tells N S′)
-      (unless-done refusal.NoStateBefore (not-tells (nothing-running-tells N S′)) (done-is (unticked N S′) S)))
+      unless-done (refusal.OnlyBack barrier.SomeFresh) (none-fresh-tells N S′)
+      (unless-done refusal.StartOwed (no-start-owed-tells N S′)
+      (unless-done refusal.NothingRunning (not-tells (nothing-running-tells N S′)) (done-is (unticked N S′) S)))
 
 -- THE STATE THAT `back` BUILDS IS LAWFUL, AND THE EVENT LEADS FROM IT
 

@@ -13,9 +13,9 @@ use Rattle.model.proofs.Forward.{apply-exact}
 use Rattle.model.proofs.Lawful.{initial-lawful}
 use Rattle.model.proofs.Lacking.{not-enabled, just-short}
 use Rattle.model.proofs.Back.{back-exact, apply-lawful, back-lawful, apply-injective}
-use Rattle.model.proofs.Refusals.{apply-refuses, short-told, back-refuses}
+use Rattle.model.proofs.Refusals.{apply-refuses, short-told, back-refuses, no-state-before}
 use Rattle.model.proofs.Run.{leads-lawful, run-accepted, run-exact, run-ran, ran-only, run-short}
-use Rattle.model.proofs.Walk.{walk-exact, walk-back, walk-walked, walked-only}
+use Rattle.model.proofs.Walk.{walk-exact, walk-refused, walk-no-state-before, walk-back, walk-walked, walked-only}
 use Rattle.model.proofs.Owed.{owed-reports, reports-once, owed-standing, free-to-tick}
 
 pub demand-2 : (N : Net) → Demand2 N
@@ -46,8 +46,11 @@ demand-3 N = record {
       apply-injective N e S₁ S₂ S′ s₁ s₂ (apply-exact N S₁ e S′ .1 m₁) (apply-exact N S₂ e S′ .1 m₂);
   yields = λ S′ s′ e (S, s, m). back-exact N S′ s′ e S .1 (s, m);
   back-refused = back-refuses N;
+  no-state-before = no-state-before N;
   walked-back = walk-back N;
   walk-accepted = walk-exact N;
+  walk-refused = walk-refused N;
+  walk-no-state-before = walk-no-state-before N;
   walk-told = λ S′ s′ es n r. (
     (λ e. subst (Walked N S′ es n) (sym e) (walk-walked N S′ s′ es n)),
     walked-only N S′ s′ es n r,

@@ -17,6 +17,8 @@ use Rattle.model.proofs.event.Event.first.Reads as event-first
 use Rattle.model.proofs.event.Event.first.Kinds as event-first-kinds
 use Rattle.model.proofs.event.Event.second.Reads as event-second
 use Rattle.model.proofs.event.Event.second.Kinds as event-second-kinds
+use Rattle.model.proofs.answer.Barrier.number.Reads as barrier-number
+use Rattle.model.proofs.answer.Barrier.number.Kinds as barrier-number-kinds
 use Rattle.model.proofs.answer.Refusal.number.Reads as refusal-number
 use Rattle.model.proofs.answer.Refusal.number.Kinds as refusal-number-kinds
 use Rattle.model.proofs.answer.Answer.number.Reads as answer-number
@@ -66,6 +68,9 @@ event-first-determined κs args x y s s′ p q = p ∙ sym q
 
 pub event-second-determined : Determined 0 event-second-kinds.ps event-second-kinds.r event-second.Learnt
 event-second-determined κs args x y s s′ p q = p ∙ sym q
+
+pub barrier-number-determined : Determined 0 barrier-number-kinds.ps barrier-number-kinds.r barrier-number.Learnt
+barrier-number-determined κs args x y s s′ p q = p ∙ sym q
 
 pub refusal-number-determined : Determined 0 refusal-number-kinds.ps refusal-number-kinds.r refusal-number.Learnt
 refusal-number-determined κs args x y s s′ p q = p ∙ sym q

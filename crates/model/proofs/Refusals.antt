@@ -1,20 +1,21 @@
 -- The numbers: `apply` and `back` tell each refusal exactly when document 01's table has it.
 -- Assumes nothing.
 use mathlib.Core.Path.{_≡_, refl, sym, ap, _∙_}
-use mathlib.Core.Logic.{_↔_, _⊎_, inl, inr}
+use mathlib.Core.Logic.{_↔_}
 use Prim.Native.Nat.{ℕ, suc, _<_}
 use native.Mathlib.Omega.{arith}
 use Rattle.model.specs.declared.age.Age.{Age}
 use Rattle.model.specs.declared.event.Event.{Event}
 use Rattle.model.specs.declared.event.Event.the-variants as event
 use Rattle.model.specs.declared.answer.Short.{Short}
+use Rattle.model.specs.declared.answer.Barrier.the-variants as barrier
 use Rattle.model.specs.declared.answer.Refusal.{Refusal}
 use Rattle.model.specs.declared.answer.Refusal.the-variants as refusal
 use Rattle.model.specs.Answer.{numberOfRefusal}
 use Rattle.model.specs.Net.{Net, State, Lawful, count}
-use Rattle.model.specs.Moves.{Moves}
 use Rattle.model.specs.Refusals.{Unfit, Fit, Refuses, FallsShort, Barred}
 use Rattle.model.specs.Rules.{Outcome, done, refused, short, apply, back}
+use Rattle.model.specs.Demands.{SomeLeads, NoStateBefore}
 use Rattle.model.proofs.Tests.{leb-tells, ltb-tells, not-tells, held-tells, timely-tells, enabled-tells, no-start-owed-tells}
 use Rattle.model.proofs.Tests.{no-end-owed-tells, nothing-running-tells, has-room-tells, covers-tells, none-fresh-tells}
 use Rattle.model.proofs.Tests.{stable, never, past, fails, refusal-by}
@@ -113,57 +114,117 @@ short-told N S e s = (
 
 -- BACK
 
--- a refused step back tells 11 or 12 where the event is unfit, and else 21
-back-told : (N : Net) (S′ : State) (e : Event) (why : Refusal) → back N S′ e ≡ refused why
-    → Unfit N e why ⊎ (Fit N e × (why ≡ refusal.NoStateBefore))
-unfolding back
-back-told N S′ event.Tick why =
-    refusal-by refusal.NoStateBefore _ (none-fresh-tells N S′) (λ _ q. inr (tt, q)) (λ _.
-    refusal-by refusal.NoStateBefore _ (no-start-owed-tells N S′) (λ _ q. inr (tt, q)) (λ _.
-    refusal-by refusal.NoStateBefore _ (not-tells (nothing-running-tells N S′)) (λ _ q. inr (tt, q)) (λ _. never)))
-back-told N S′ (event.Start t) why =
-    refusal-by refusal.NoSuchTransition _ (ltb-tells t (N .transitions)) (λ a q. inl (rw q (Unfit.no-such-start a))) (λ l.
-    refusal-by refusal.NoStateBefore _ (leb-tells 1 (count S′ t 0)) (λ _ q. inr (l, q)) (λ _.
-    refusal-by refusal.NoStateBefore _ (has-room-tells N S′ (N .takes t)) (λ _ q. inr (l, q)) (λ _. never)))
-back-told N S′ (event.End t age) why =
-    refusal-by refusal.NoSuchTransition _ (ltb-tells t (N .transitions)) (λ a q. inl (rw q (Unfit.no-such-end a))) (λ l.
-    refusal-by refusal.NoStateBefore _ (timely-tells N t (age .0)) (λ _ q. inr (l, q)) (λ _.
-    refusal-by refusal.NoStateBefore _ (covers-tells N S′ (N .gives t)) (λ _ q. inr (l, q)) (λ _.
-    refusal-by refusal.NoStateBefore _ (held-tells (suc (count S′ t (age .0)))) (λ _ q. inr (l, q)) (λ _. never))))
-back-told N S′ event.Malformed why = λ e. inl (rw (same-refusal e) Unfit.malformed)
+module _ (N : Net) (S′ : State) where
+  unstart-told : (t : ℕ) (why : Refusal) → back N S′ (event.Start t) ≡ refused why → Barred N S′ (event.Start t) why
+  unfolding back
+  unstart-told t why =
+      refusal-by refusal.NoSuchTransition _ (ltb-tells t (N .transitions))
+      (λ a q. rw q (Barred.unfit (Unfit.no-such-start a))) (λ l.
+      refusal-by (refusal.OnlyBack barrier.NoneStarted) _ (leb-tells 1 (count S′ t 0)) (λ a q. rw q (Barred.none-started l a)) (λ c.
+      refusal-by (refusal.OnlyBack barrier.PlaceOverfull) _ (has-room-tells N S′ (N .takes t))
+      (λ a q. rw q (Barred.place-overfull l c a)) (λ _. never)))
 
-unfit-told : (N : Net) (S′ : State) {e : Event} {why : Refusal} → Unfit N e why → back N S′ e ≡ refused why
-unfolding back
-unfit-told N S′ Unfit.malformed = refl
-unfit-told N S′ (Unfit.no-such-start {t} a) = fails refusal.NoSuchTransition _ (ltb-tells t (N .transitions)) a
-unfit-told N S′ (Unfit.no-such-end {t} a) = fails refusal.NoSuchTransition _ (ltb-tells t (N .transitions)) a
+  unend-told : (t : ℕ) (age : Age) (why : Refusal) → back N S′ (event.End t age) ≡ refused why → Barred N S′ (event.End t age) why
+  unfolding back
+  unend-told t age why =
+      refusal-by refusal.NoSuchTransition _ (ltb-tells t (N .transitions))
+      (λ a q. rw q (Barred.unfit (Unfit.no-such-end a))) (λ l.
+      refusal-by refusal.OutsideInterval _ (timely-tells N t (age .0)) (λ a q. rw q (Barred.outside-interval l a)) (λ i.
+      refusal-by (refusal.OnlyBack barrier.TooFewTokens) _ (covers-tells N S′ (N .gives t)) (λ a q. rw q (Barred.too-few-tokens l i a)) (λ c.
+      refusal-by (refusal.OnlyBack barrier.CountOverfull) _ (held-tells (suc (count S′ t (age .0))))
+      (λ a q. rw q (Barred.count-overfull l i c a)) (λ _. never))))
 
-fit-or-unfit : {C : Type 0} (N : Net) {e : Event} {why : Refusal} → Fit N e → Unfit N e why → C
-fit-or-unfit N f Unfit.malformed = absurd f
-fit-or-unfit N f (Unfit.no-such-start a) = absurd (a f)
-fit-or-unfit N f (Unfit.no-such-end a) = absurd (a f)
+  untick-told : (why : Refusal) → back N S′ event.Tick ≡ refused why → Barred N S′ event.Tick why
+  unfolding back
+  untick-told why =
+      refusal-by (refusal.OnlyBack barrier.SomeFresh) _ (none-fresh-tells N S′) (λ a q. rw q (Barred.some-fresh a)) (λ f.
+      refusal-by refusal.StartOwed _ (no-start-owed-tells N S′) (λ a q. rw q (Barred.start-owed f a)) (λ s.
+      refusal-by refusal.NothingRunning _ (not-tells (nothing-running-tells N S′))
+      (λ a q. rw q (Barred.nothing-running f s (stable (nothing-running-tells N S′) a))) (λ _. never)))
 
-module _ (N : Net) (S′ : State) (s′ : Lawful N S′) where
-  bars : (e : Event) (why : Refusal) → back N S′ e ≡ refused why → Barred N S′ e why
-  bars e why r = elim (back-told N S′ e why r) [
-    | inl u ↦ Barred.unfit u
-    | inr (f, q) ↦ rw q (Barred.no-state-before f (λ S s m. never (sym (back-exact N S′ s′ e S .1 (s, m)) ∙ r)))
-  ]
-
-  -- where no lawful state leads here, the step back is not done
-  orphaned : (e : Event) → Fit N e → ((S : State) → Lawful N S → ¬ Moves N S e S′)
-      → (o : Outcome) → back N S′ e ≡ o → back N S′ e ≡ refused refusal.NoStateBefore
-  orphaned e f none (done S) r = let (s, m) = back-exact N S′ s′ e S .0 r in absurd (none S s m)
-  orphaned e f none (refused why) r = r ∙ ap refused (elim (back-told N S′ e why r) [
-    | inl u ↦ fit-or-unfit N f u
-    | inr (_, q) ↦ q
-  ])
+  unmade-told : (why : Refusal) → back N S′ event.Malformed ≡ refused why → Barred N S′ event.Malformed why
+  unfolding back
+  unmade-told why e = rw (same-refusal e) (Barred.unfit Unfit.malformed)
 
   tells-back : {e : Event} {why : Refusal} → Barred N S′ e why → back N S′ e ≡ refused why
-  tells-back (Barred.unfit u) = unfit-told N S′ u
-  tells-back (Barred.no-state-before {e} f none) = orphaned e f none (back N S′ e) refl
+  unfolding back
+  tells-back (Barred.unfit Unfit.malformed) = refl
+  tells-back (Barred.unfit (Unfit.no-such-start {t} a)) = fails refusal.NoSuchTransition _ (ltb-tells t (N .transitions)) a
+  tells-back (Barred.unfit (Unfit.no-such-end {t} a)) = fails refusal.NoSuchTransition _ (ltb-tells t (N .transitions)) a
+  tells-back (Barred.some-fresh a) = fails (refusal.OnlyBack barrier.SomeFresh) _ (none-fresh-tells N S′) a
+  tells-back (Barred.start-owed f a) =
+      past (refusal.OnlyBack barrier.SomeFresh) (none-fresh-tells N S′) f (fails refusal.StartOwed _ (no-start-owed-tells N S′) a)
+  tells-back (Barred.nothing-running f s a) =
+      past (refusal.OnlyBack barrier.SomeFresh) (none-fresh-tells N S′) f
+      (past refusal.StartOwed (no-start-owed-tells N S′) s
+      (fails refusal.NothingRunning _ (not-tells (nothing-running-tells N S′)) (λ g. g a)))
+  tells-back (Barred.none-started {t} l a) =
+      past refusal.NoSuchTransition (ltb-tells t (N .transitions)) l
+      (fails (refusal.OnlyBack barrier.NoneStarted) _ (leb-tells 1 (count S′ t 0)) a)
+  tells-back (Barred.place-overfull {t} l c a) =
+      past refusal.NoSuchTransition (ltb-tells t (N .transitions)) l
+      (past (refusal.OnlyBack barrier.NoneStarted) (leb-tells 1 (count S′ t 0)) c
+      (fails (refusal.OnlyBack barrier.PlaceOverfull) _ (has-room-tells N S′ (N .takes t)) a))
+  tells-back (Barred.outside-interval {t} {age} l a) =
+      past refusal.NoSuchTransition (ltb-tells t (N .transitions)) l
+      (fails refusal.OutsideInterval _ (timely-tells N t (age .0)) a)
+  tells-back (Barred.too-few-tokens {t} {age} l i a) =
+      past refusal.NoSuchTransition (ltb-tells t (N .transitions)) l
+      (past refusal.OutsideInterval (timely-tells N t (age .0)) i
+      (fails (refusal.OnlyBack barrier.TooFewTokens) _ (covers-tells N S′ (N .gives t)) a))
+  tells-back (Barred.count-overfull {t} {age} l i c a) =
+      past refusal.NoSuchTransition (ltb-tells t (N .transitions)) l
+      (past refusal.OutsideInterval (timely-tells N t (age .0)) i
+      (past (refusal.OnlyBack barrier.TooFewTokens) (covers-tells N S′ (N .gives t)) c
+      (fails (refusal.OnlyBack barrier.CountOverfull) _ (held-tells (suc (count S′ t (age .0)))) a)))
 
--- DEMAND 3, where there is no state before: 21 exactly when no lawful state leads here by the event, behind 11 and 12
-pub back-refuses : (N : Net) (S′ : State) → Lawful N S′ → (e : Event) (why : Refusal)
-    → (back N S′ e ≡ refused why) ↔ Barred N S′ e why
-back-refuses N S′ s′ e why = (bars N S′ s′ e why, tells-back N S′ s′)
+-- DEMAND 3, where an event is not taken back: each refusal is told exactly when the table has it
+pub back-refuses : (N : Net) (S′ : State) (e : Event) (why : Refusal) → (back N S′ e ≡ refused why) ↔ Barred N S′ e why
+back-refuses N S′ event.Tick why = (untick-told N S′ why, tells-back N S′)
+back-refuses N S′ (event.Start t) why = (unstart-told N S′ t why, tells-back N S′)
+back-refuses N S′ (event.End t age) why = (unend-told N S′ t age why, tells-back N S′)
+back-refuses N S′ event.Malformed why = (unmade-told N S′ why, tells-back N S′)
+
+-- none of them is 13
+pub barred-other : {N : Net} {S : State} {e : Event} {why : Refusal} → Barred N S e why → ¬ (numberOfRefusal why ≡ 13)
+barred-other (Barred.unfit u) z = omega (arith, unfit-number u)
+barred-other (Barred.some-fresh _) z = omega arith
+barred-other (Barred.start-owed _ _) z = omega arith
+barred-other (Barred.nothing-running _ _ _) z = omega arith
+barred-other (Barred.none-started _ _) z = omega arith
+barred-other (Barred.place-overfull _ _ _) z = omega arith
+barred-other (Barred.outside-interval _ _) z = omega arith
+barred-other (Barred.too-few-tokens _ _ _) z = omega arith
+barred-other (Barred.count-overfull _ _ _ _) z = omega arith
+
+barred-fit : {N : Net} {S : State} {e : Event} {why : Refusal} → Barred N S e why → ¬ Unfit N e why → Fit N e
+barred-fit (Barred.unfit u) behind = absurd (behind u)
+barred-fit (Barred.some-fresh _) behind = tt
+barred-fit (Barred.start-owed _ _) behind = tt
+barred-fit (Barred.nothing-running _ _ _) behind = tt
+barred-fit (Barred.none-started l _) behind = l
+barred-fit (Barred.place-overfull l _ _) behind = l
+barred-fit (Barred.outside-interval l _) behind = l
+barred-fit (Barred.too-few-tokens l _ _) behind = l
+barred-fit (Barred.count-overfull l _ _ _) behind = l
+
+fit-not-unfit : {N : Net} {e : Event} {why : Refusal} → Fit N e → ¬ Unfit N e why
+fit-not-unfit f Unfit.malformed = f
+fit-not-unfit f (Unfit.no-such-start a) = a f
+fit-not-unfit f (Unfit.no-such-end a) = a f
+
+-- behind 11 and 12, one is told exactly if no lawful state leads here by the event
+pub no-state-before : (N : Net) (S′ : State) → Lawful N S′ → (e : Event)
+    → ((why : Refusal) × (back N S′ e ≡ refused why) × ¬ Unfit N e why) ↔ NoStateBefore N S′ e
+no-state-before N S′ s′ e = (
+  (λ (why, r, behind). (
+    barred-fit (back-refuses N S′ e why .0 r) behind,
+    λ (S, s, m). never (sym (back-exact N S′ s′ e S .1 (s, m)) ∙ r),
+  )),
+  λ (f, none). orphaned f none (back N S′ e) refl,
+)
+  where
+    orphaned : Fit N e → ¬ SomeLeads N S′ e → (o : Outcome) → back N S′ e ≡ o
+        → (why : Refusal) × (back N S′ e ≡ refused why) × ¬ Unfit N e why
+    orphaned f none (done S) r = let (s, m) = back-exact N S′ s′ e S .0 r in absurd (none (S, s, m))
+    orphaned f none (refused why) r = (why, r, fit-not-unfit f)

@@ -11,8 +11,8 @@ use Rattle.model.specs.declared.answer.Refusal.{Refusal}
 use Rattle.model.specs.Tab.{Tells}
 use Rattle.model.specs.Limits.{Sized, sized?, IsInterval, interval?, Logged, logged?, Held, held?, placeLimit, transitionLimit, durationLimit, eventLimit, tokenLimit}
 use Rattle.model.specs.Net.{Net, State, width, tokens, count}
-use Rattle.model.specs.Moves.{Enabled, NoStartOwed, NoEndOwed, NothingRunning, Timely, HasRoom}
-use Rattle.model.specs.Rules.{Outcome, done, refused, unless, lackingPlace, enabled?, no-start-owed?, no-end-owed?, nothing-running?, timely?, has-room?, Covers, covers?, NoneFresh, none-fresh?}
+use Rattle.model.specs.Moves.{Enabled, NoStartOwed, NoEndOwed, NothingRunning, Timely, HasRoom, Covers, NoneFresh}
+use Rattle.model.specs.Rules.{Outcome, done, refused, unless, lackingPlace, enabled?, no-start-owed?, no-end-owed?, nothing-running?, timely?, has-room?, covers?, none-fresh?}
 use Rattle.model.specs.Owed.{Lowest}
 use Rattle.model.proofs.Tab.{all-tells, both-tell, below-suc}
 use Rattle.model.proofs.Lowest.{lowest-is, lowest-once}

@@ -2,6 +2,8 @@
 -- Assumes nothing.
 use Prim.Native.Nat.{ℕ}
 use Rattle.model.specs.declared.answer.Short.{Short}
+use Rattle.model.specs.declared.answer.Barrier.{Barrier}
+use Rattle.model.specs.declared.answer.Barrier.the-variants as barrier
 use Rattle.model.specs.declared.answer.Refusal.{Refusal}
 use Rattle.model.specs.declared.answer.Refusal.the-variants as refusal
 use Rattle.model.specs.declared.answer.Answer.{Answer}
@@ -22,6 +24,13 @@ pub record Telling : Type 0 where
 abbrev pub plain : ℕ → Telling
 plain number = record { number = number; short = nothingShort }
 
+abbrev pub numberOfBarrier : Barrier → ℕ
+numberOfBarrier barrier.SomeFresh = 21
+numberOfBarrier barrier.NoneStarted = 24
+numberOfBarrier barrier.PlaceOverfull = 25
+numberOfBarrier barrier.TooFewTokens = 26
+numberOfBarrier barrier.CountOverfull = 27
+
 -- 13 alone tells of a place
 abbrev pub tellingOfRefusal : Refusal → Telling
 tellingOfRefusal refusal.Malformed = plain 11
@@ -34,7 +43,7 @@ tellingOfRefusal refusal.PlaceFull = plain 17
 tellingOfRefusal refusal.StartOwed = plain 18
 tellingOfRefusal refusal.EndOwed = plain 19
 tellingOfRefusal refusal.NothingRunning = plain 20
-tellingOfRefusal refusal.NoStateBefore = plain 21
+tellingOfRefusal (refusal.OnlyBack barrier) = plain (numberOfBarrier barrier)
 
 abbrev pub tellingOf : Answer → Telling
 tellingOf answer.Done = plain 0

@@ -192,7 +192,7 @@ cases =
     ∷ runs childrensRow first (start 0 ∷ tick ∷ end 0 1 ∷ tick ∷ []) (tells 18 3 3 1 (state (marks 0 1 0) none none)) 1
     ∷ runs childrensRow first (log ++ (tick ∷ [])) (tells 20 5 5 1 filled) 4
     ∷ undoes childrensRow filled (end 1 0) (undone 0 (state (marks 0 0 0) none (ages 1 0 0 0)))
-    ∷ undoes childrensRow first tick (undone 21 (state (marks 1 0 0) none none))
+    ∷ undoes childrensRow first tick (undone 18 (state (marks 1 0 0) none none))
     ∷ does childrensRow (loaded 65534) (end 0 1) (answers 0 (state (marks 0 65535 0) none none))
     ∷ does childrensRow (loaded 65535) (end 0 1) (answers 17 (loaded 65535))
     ∷ []
@@ -209,13 +209,18 @@ furtherCases =
     ∷ undoes childrensRow filled (end 2 0) (undone 12 filled)
     -- no such transition, though a start of it would find no token: 12 before 13
     ∷ does slowMiddle idle (start 3) (answers 12 idle)
-    -- a start taken back, and one that cannot have been: place 0 would have held 65,536
+    -- a start taken back, and three that cannot have been: place 0 would have held 65,536; no firing has age 0; both, 24 before 25
     ∷ undoes childrensRow (state (marks 0 0 0) (ages 1 0 0 0) none) (start 0) (undone 0 (state (marks 1 0 0) none none))
-    ∷ undoes childrensRow (state (marks 65535 0 0) (ages 1 0 0 0) none) (start 0) (undone 21 (state (marks 65535 0 0) (ages 1 0 0 0) none))
-    -- a tick taken back, and two that cannot have been: a firing has age 0; the marking enables transition 0
+    ∷ undoes childrensRow (state (marks 65535 0 0) (ages 1 0 0 0) none) (start 0) (undone 25 (state (marks 65535 0 0) (ages 1 0 0 0) none))
+    ∷ undoes childrensRow (loaded 0) (start 0) (undone 24 (loaded 0))
+    ∷ undoes childrensRow (state (marks 65535 0 0) none none) (start 0) (undone 24 (state (marks 65535 0 0) none none))
+    -- a tick taken back, and some that cannot have been: a firing has age 0; the marking enables transition 0; both, 21 before 18;
+    -- nothing runs (K10 has both of the last two, 18 before 20)
     ∷ undoes childrensRow (loaded 0) tick (undone 0 (state (marks 0 0 0) (ages 1 0 0 0) none))
     ∷ undoes childrensRow (state (marks 0 0 0) (ages 1 1 0 0) none) tick (undone 21 (state (marks 0 0 0) (ages 1 1 0 0) none))
-    ∷ undoes childrensRow (state (marks 1 0 0) (ages 0 1 0 0) none) tick (undone 21 (state (marks 1 0 0) (ages 0 1 0 0) none))
+    ∷ undoes childrensRow (state (marks 1 0 0) (ages 0 1 0 0) none) tick (undone 18 (state (marks 1 0 0) (ages 0 1 0 0) none))
+    ∷ undoes childrensRow (state (marks 1 0 0) (ages 1 1 0 0) none) tick (undone 21 (state (marks 1 0 0) (ages 1 1 0 0) none))
+    ∷ undoes childrensRow filled tick (undone 20 filled)
     -- a transition not enabled and with a full count: 13 before 14
     ∷ does childrensRow (state (marks 0 0 0) (ages 65535 0 0 0) none) (start 0) (falls-short 0 1 (state (marks 0 0 0) (ages 65535 0 0 0) none))
     -- no firing, and the age outside the interval: 15 before 16; or the place full: 16 before 17
@@ -223,13 +228,17 @@ furtherCases =
     ∷ does childrensRow (state (marks 0 65535 0) none none) (end 0 1) (answers 16 (state (marks 0 65535 0) none none))
     -- a start and an end owed: 18 before 19
     ∷ does childrensRow (state (marks 1 0 0) (ages 0 0 0 1) none) tick (answers 18 (state (marks 1 0 0) (ages 0 0 0 1) none))
-    -- weights above 1: a place one short; the count filled and nearly so; an end taken back, one token short, and with a filled count
+    -- weights above 1: a place one short; the count filled and nearly so
     ∷ does heavy (laden 1 0 0 0 0) (start 0) (falls-short 0 1 (laden 1 0 0 0 0))
     ∷ does heavy (laden 5 0 65534 0 0) (start 0) (answers 0 (laden 3 0 65535 0 0))
     ∷ does heavy (laden 5 0 65535 0 0) (start 0) (answers 14 (laden 5 0 65535 0 0))
+    -- an end taken back, up to a filled count; one token short; with a filled count; both, 26 before 27; one that came too late, 15 before 26
     ∷ undoes heavy (laden 0 3 0 0 0) (end 0 2) (undone 0 (laden 0 0 0 0 1))
-    ∷ undoes heavy (laden 0 2 0 0 0) (end 0 2) (undone 21 (laden 0 2 0 0 0))
-    ∷ undoes heavy (laden 0 3 0 0 65535) (end 0 2) (undone 21 (laden 0 3 0 0 65535))
+    ∷ undoes heavy (laden 0 3 0 0 65534) (end 0 2) (undone 0 (laden 0 0 0 0 65535))
+    ∷ undoes heavy (laden 0 2 0 0 0) (end 0 2) (undone 26 (laden 0 2 0 0 0))
+    ∷ undoes heavy (laden 0 3 0 0 65535) (end 0 2) (undone 27 (laden 0 3 0 0 65535))
+    ∷ undoes heavy (laden 0 2 0 0 65535) (end 0 2) (undone 26 (laden 0 2 0 0 65535))
+    ∷ undoes heavy (laden 0 2 0 0 0) (end 0 3) (undone 15 (laden 0 2 0 0 0))
     -- the lowest of two places that lack tokens, after one that has just enough; and a run that ends where all three are short
     ∷ does threefold (trio 2 2 1 0) (start 0) (falls-short 1 2 (trio 2 2 1 0))
     ∷ runs threefold (trio 4 9 9 0) (start 0 ∷ start 0 ∷ start 0 ∷ []) (stops-short 0 2 2 0 (trio 0 1 1 2)) 2
@@ -244,8 +253,8 @@ furtherCases =
     ∷ walks childrensRow filled log 2 (walked 0 3 2 0 (state (marks 0 1 0) none none))
     ∷ walks childrensRow filled log 0 (walked 0 5 0 0 filled)
     ∷ walks childrensRow filled log 6 (walked 22 0 0 0 filled)
-    ∷ walks childrensRow first log 5 (walked 21 4 0 0 (state (marks 1 0 0) none none))
-    ∷ walks childrensRow (state (marks 0 0 0) (ages 0 0 1 0) none) (start 1 ∷ start 0 ∷ tick ∷ []) 3 (walked 21 1 1 1 (loaded 0))
+    ∷ walks childrensRow first log 5 (walked 26 4 0 0 (state (marks 1 0 0) none none))
+    ∷ walks childrensRow (state (marks 0 0 0) (ages 0 0 1 0) none) (start 1 ∷ start 0 ∷ tick ∷ []) 3 (walked 24 1 1 1 (loaded 0))
     -- degrees, and widths
     ∷ has-degree heavy (laden 5 0 0 0 0) 0 2
     ∷ has-degree heavy (laden 1 0 0 0 0) 0 0

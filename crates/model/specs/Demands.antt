@@ -14,9 +14,10 @@ use Rattle.model.specs.declared.answer.Refusal.the-variants as refusal
 use Rattle.model.specs.declared.answer.Standing.the-variants as standing
 use Rattle.model.specs.Net.{Net, State, Proper, Lawful, IsWidth, Initial, width, initialState}
 use Rattle.model.specs.Moves.{Enabled, Lacks, Degree, Moves}
-use Rattle.model.specs.Refusals.{Refuses, FallsShort, JustShort, Barred}
+use Rattle.model.specs.Refusals.{Unfit, Fit, Refuses, FallsShort, JustShort, Barred}
 use Rattle.model.specs.Rules.{done, refused, apply, back, degree}
-use Rattle.model.specs.Run.{RunTold, WalkTold, Leads, Ran, Walked, run, walk, eventAt, lastOf, acceptedRun, shortRun, acceptedWalk}
+use Rattle.model.specs.Run.{RunTold, WalkTold, Leads, Ran, Walked, run, walk, eventAt, eventBefore, lastOf}
+use Rattle.model.specs.Run.{acceptedRun, shortRun, acceptedWalk, stoppedWalk}
 use Rattle.model.specs.Owed.{Report, Reports, owed}
 
 -- DEMAND 2
@@ -54,6 +55,10 @@ pub record Demand2 (N : Net) : Type 0 where
 abbrev pub SomeLeads : Net → State → Event → Type 0
 SomeLeads N S′ e = (S : State) × Lawful N S × Moves N S e S′
 
+-- the net has the event, and no lawful state leads to S′ by it
+abbrev pub NoStateBefore : Net → State → Event → Type 0
+NoStateBefore N S′ e = Fit N e × ¬ SomeLeads N S′ e
+
 -- DEMAND 3
 pub record Demand3 (N : Net) : Type 0 where
   -- a step back succeeds exactly if some lawful state leads here by that event
@@ -62,8 +67,11 @@ pub record Demand3 (N : Net) : Type 0 where
   pub never-a-second : (S′ : State) (e : Event) (a b : SomeLeads N S′ e) → a .0 ≡ b .0
   -- and the step back yields it
   pub yields : (S′ : State) → Lawful N S′ → (e : Event) (a : SomeLeads N S′ e) → back N S′ e ≡ done (a .0)
-  -- where there is none, 21 is told, behind 11 and 12
-  pub back-refused : (S′ : State) → Lawful N S′ → (e : Event) (why : Refusal) → (back N S′ e ≡ refused why) ↔ Barred N S′ e why
+  -- each refusal is given exactly when request W4 says
+  pub back-refused : (S′ : State) (e : Event) (why : Refusal) → (back N S′ e ≡ refused why) ↔ Barred N S′ e why
+  -- and behind 11 and 12 one is given exactly if no lawful state leads here
+  pub no-state-before : (S′ : State) → Lawful N S′ → (e : Event)
+      → ((why : Refusal) × (back N S′ e ≡ refused why) × ¬ Unfit N e why) ↔ NoStateBefore N S′ e
   -- so walking back the last n events of an accepted log gives the very state that the earlier events gave
   pub walked-back : (S S′ : State) (es : List Event) (n : ℕ) → Lawful N S → run N S es ≡ acceptedRun es S′ → n ≤ length es
       → (S₁ : State) × (run N S (take (length es - n) es) ≡ acceptedRun (take (length es - n) es) S₁)
@@ -71,6 +79,14 @@ pub record Demand3 (N : Net) : Type 0 where
   -- a walk from any lawful state is accepted exactly if the last n events lead here from a lawful state, which it gives
   pub walk-accepted : (S′ : State) → Lawful N S′ → (es : List Event) (n : ℕ) → n ≤ length es → (S : State)
       → (walk N S′ es n ≡ acceptedWalk es n S) ↔ (Lawful N S × Leads N S (lastOf n es) S′)
+  -- a refusal stops it behind k events, in S, exactly if S is lawful, they lead from S here, and S bars the event before them
+  pub walk-refused : (S′ : State) → Lawful N S′ → (es : List Event) (n : ℕ) → n ≤ length es → (k : ℕ) (why : Refusal) (S : State)
+      → (walk N S′ es n ≡ stoppedWalk es k why S)
+      ↔ ((k < n) × Lawful N S × Leads N S (lastOf k es) S′ × Barred N S (eventBefore es k) why)
+  -- and behind 11 and 12 one does exactly if no lawful state leads to S by that event
+  pub walk-no-state-before : (S′ : State) → Lawful N S′ → (es : List Event) (n : ℕ) → n ≤ length es → (k : ℕ) (S : State)
+      → ((why : Refusal) × (walk N S′ es n ≡ stoppedWalk es k why S) × ¬ Unfit N (eventBefore es k) why)
+      ↔ ((k < n) × Lawful N S × Leads N S (lastOf k es) S′ × NoStateBefore N S (eventBefore es k))
   -- and what is told of any walk is exact
   pub walk-told : (S′ : State) → Lawful N S′ → (es : List Event) (n : ℕ) (r : WalkTold) → (r ≡ walk N S′ es n) ↔ Walked N S′ es n r
 

@@ -53,6 +53,14 @@ Timely N t j = (N .sfd t ≤ j) × (j ≤ N .lfd t)
 abbrev pub HasRoom : Net → State → (ℕ → ℕ) → Type 0
 HasRoom N S more = (p : ℕ) → p < N .places → Held (tokens S p + more p)
 
+-- every place has `fewer p` tokens to give back
+abbrev pub Covers : Net → State → (ℕ → ℕ) → Type 0
+Covers N S fewer = (p : ℕ) → p < N .places → fewer p ≤ tokens S p
+
+-- no firing has age 0
+abbrev pub NoneFresh : Net → State → Type 0
+NoneFresh N S = (t : ℕ) → t < N .transitions → count S t 0 ≡ 0
+
 -- Definition 5.1
 pub record Starts (N : Net) (S : State) (t : ℕ) (S′ : State) : Type 0 where
   pub known : t < N .transitions

@@ -6,11 +6,12 @@ use Rattle.model.specs.declared.age.Age.{Age}
 use Rattle.model.specs.declared.event.Event.{Event}
 use Rattle.model.specs.declared.event.Event.the-variants as event
 use Rattle.model.specs.declared.answer.Short.{Short}
+use Rattle.model.specs.declared.answer.Barrier.the-variants as barrier
 use Rattle.model.specs.declared.answer.Refusal.{Refusal}
 use Rattle.model.specs.declared.answer.Refusal.the-variants as refusal
 use Rattle.model.specs.Limits.{Held}
-use Rattle.model.specs.Net.{Net, State, Lawful, count}
-use Rattle.model.specs.Moves.{Enabled, EnoughWith, Lacks, NoStartOwed, NoEndOwed, NothingRunning, Timely, HasRoom, Moves}
+use Rattle.model.specs.Net.{Net, State, count}
+use Rattle.model.specs.Moves.{Enabled, EnoughWith, Lacks, NoStartOwed, NoEndOwed, NothingRunning, Timely, HasRoom, Covers, NoneFresh}
 
 -- 11 and 12, told of an event done and of one taken back
 pub data Unfit (N : Net) : Event → Refusal → Type 0 where
@@ -50,8 +51,19 @@ pub data Refuses (N : Net) (S : State) : Event → Refusal → Type 0 where
   end-owed : NoStartOwed N S → ¬ NoEndOwed N S → Refuses N S event.Tick refusal.EndOwed
   nothing-running : NoStartOwed N S → NoEndOwed N S → NothingRunning N S → Refuses N S event.Tick refusal.NothingRunning
 
--- 11, 12 and 21: the event cannot be taken back from S′, and why
+-- request W4: the event cannot be taken back from S′, and why. Of a tick 21, 18, 20; of a start 24, 25; of an end 15, 26, 27
 pub data Barred (N : Net) (S′ : State) : Event → Refusal → Type 0 where
   unfit : {e : Event} {why : Refusal} → Unfit N e why → Barred N S′ e why
-  no-state-before : {e : Event} → Fit N e
-      → ((S : State) → Lawful N S → ¬ Moves N S e S′) → Barred N S′ e refusal.NoStateBefore
+  some-fresh : ¬ NoneFresh N S′ → Barred N S′ event.Tick (refusal.OnlyBack barrier.SomeFresh)
+  start-owed : NoneFresh N S′ → ¬ NoStartOwed N S′ → Barred N S′ event.Tick refusal.StartOwed
+  nothing-running : NoneFresh N S′ → NoStartOwed N S′ → NothingRunning N S′ → Barred N S′ event.Tick refusal.NothingRunning
+  none-started : {t : ℕ} → t < N .transitions
+      → ¬ (1 ≤ count S′ t 0) → Barred N S′ (event.Start t) (refusal.OnlyBack barrier.NoneStarted)
+  place-overfull : {t : ℕ} → t < N .transitions → 1 ≤ count S′ t 0
+      → ¬ HasRoom N S′ (N .takes t) → Barred N S′ (event.Start t) (refusal.OnlyBack barrier.PlaceOverfull)
+  outside-interval : {t : ℕ} {age : Age} → t < N .transitions
+      → ¬ Timely N t (age .0) → Barred N S′ (event.End t age) refusal.OutsideInterval
+  too-few-tokens : {t : ℕ} {age : Age} → t < N .transitions → Timely N t (age .0)
+      → ¬ Covers N S′ (N .gives t) → Barred N S′ (event.End t age) (refusal.OnlyBack barrier.TooFewTokens)
+  count-overfull : {t : ℕ} {age : Age} → t < N .transitions → Timely N t (age .0) → Covers N S′ (N .gives t)
+      → ¬ Held (suc (count S′ t (age .0))) → Barred N S′ (event.End t age) (refusal.OnlyBack barrier.CountOverfull)

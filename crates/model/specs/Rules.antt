@@ -1,13 +1,13 @@
 -- The rules of the events as functions that compute: one event done, one event taken back, the degree. Their only control
 -- structure is `unless`, in document 01's order. proofs/ ties them to the relations of Moves.antt and Refusals.antt.
 -- Assumes nothing.
-use mathlib.Core.Path.{_≡_}
 use mathlib.Core.Bool.{Bool, cond, _&&_, not}
-use Prim.Native.Nat.{ℕ, zero, suc, _+_, _-_, _/_, _<_, _≤_}
+use Prim.Native.Nat.{ℕ, zero, suc, _+_, _-_, _/_}
 use lib.Dec.{leb, ltb, eqb}
 use Rattle.model.specs.declared.event.Event.{Event}
 use Rattle.model.specs.declared.event.Event.the-variants as event
 use Rattle.model.specs.declared.answer.Short.{Short}
+use Rattle.model.specs.declared.answer.Barrier.the-variants as barrier
 use Rattle.model.specs.declared.answer.Refusal.{Refusal}
 use Rattle.model.specs.declared.answer.Refusal.the-variants as refusal
 use Rattle.model.specs.declared.answer.Answer.{Answer}
@@ -102,18 +102,10 @@ apply N S (event.End t age) =
     (unless (has-room? N S (N .gives t)) refusal.PlaceFull (done (ended N S t (age .0))))))
 apply N S event.Malformed = refused refusal.Malformed
 
--- ONE EVENT TAKEN BACK: S′ is the state that it led to. The two relations beside their tests serve the proofs
-
--- every place has `fewer p` tokens to give back
-abbrev pub Covers : Net → State → (ℕ → ℕ) → Type 0
-Covers N S′ fewer = (p : ℕ) → p < N .places → fewer p ≤ tokens S′ p
+-- ONE EVENT TAKEN BACK: S′ is the state that it led to
 
 unfoldable pub covers? : Net → State → (ℕ → ℕ) → Bool
 covers? N S′ fewer = all (N .places) (λ p. leb (fewer p) (tokens S′ p))
-
--- no firing has age 0
-abbrev pub NoneFresh : Net → State → Type 0
-NoneFresh N S′ = (t : ℕ) → t < N .transitions → count S′ t 0 ≡ 0
 
 unfoldable pub none-fresh? : Net → State → Bool
 none-fresh? N S′ = all (N .transitions) (λ t. eqb (count S′ t 0) 0)
@@ -128,21 +120,21 @@ unended N S′ t j = build N (λ p. tokens S′ p - N .gives t p) (λ u k. count
 unfoldable pub unticked : Net → State → State
 unticked N S′ = build N (tokens S′) (λ t j. count S′ t (suc j))
 
--- 11, 12 and 21
+-- 11 and 12; of a tick 21, 18, 20; of a start 24, 25; of an end 15, 26, 27
 unfoldable pub back : Net → State → Event → Outcome
 back N S′ event.Tick =
-    unless (none-fresh? N S′) refusal.NoStateBefore
-    (unless (no-start-owed? N S′) refusal.NoStateBefore
-    (unless (not (nothing-running? N S′)) refusal.NoStateBefore (done (unticked N S′))))
+    unless (none-fresh? N S′) (refusal.OnlyBack barrier.SomeFresh)
+    (unless (no-start-owed? N S′) refusal.StartOwed
+    (unless (not (nothing-running? N S′)) refusal.NothingRunning (done (unticked N S′))))
 back N S′ (event.Start t) =
     unless (ltb t (N .transitions)) refusal.NoSuchTransition
-    (unless (leb 1 (count S′ t 0)) refusal.NoStateBefore
-    (unless (has-room? N S′ (N .takes t)) refusal.NoStateBefore (done (unstarted N S′ t))))
+    (unless (leb 1 (count S′ t 0)) (refusal.OnlyBack barrier.NoneStarted)
+    (unless (has-room? N S′ (N .takes t)) (refusal.OnlyBack barrier.PlaceOverfull) (done (unstarted N S′ t))))
 back N S′ (event.End t age) =
     unless (ltb t (N .transitions)) refusal.NoSuchTransition
-    (unless (timely? N t (age .0)) refusal.NoStateBefore
-    (unless (covers? N S′ (N .gives t)) refusal.NoStateBefore
-    (unless (held? (suc (count S′ t (age .0)))) refusal.NoStateBefore (done (unended N S′ t (age .0))))))
+    (unless (timely? N t (age .0)) refusal.OutsideInterval
+    (unless (covers? N S′ (N .gives t)) (refusal.OnlyBack barrier.TooFewTokens)
+    (unless (held? (suc (count S′ t (age .0)))) (refusal.OnlyBack barrier.CountOverfull) (done (unended N S′ t (age .0))))))
 back N S′ event.Malformed = refused refusal.Malformed
 
 -- THE DEGREE

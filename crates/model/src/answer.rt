@@ -1,6 +1,6 @@
 // What one event answers, done or taken back, and the numbers of document 01.
 ghost use mathlib.Core.Path.{_≡_};
-ghost use Rattle.model.specs.Answer.{nothingShort, numberOfRefusal, shortOfRefusal, numberOf, shortOf, numberOfStanding};
+ghost use Rattle.model.specs.Answer.{nothingShort, numberOfBarrier, numberOfRefusal, shortOfRefusal, numberOf, shortOf, numberOfStanding};
 
 // A place that lacks tokens, and how many it lacks. A byte would be enough for either; but of so small an answer the compiler makes one
 // number, piece by piece, at every event.
@@ -15,6 +15,32 @@ impl Short {
         ensures { λ r. ⌜ r ≡ nothingShort ⌝ }
     {
         Short { place: 0, lacks: 0 }
+    }
+}
+
+// Why an event cannot be taken back, where doing one knows no such reason.
+pub enum Barrier {
+    // 21: of a tick. A firing has age 0.
+    SomeFresh,
+    // 24, 25: of a start. No firing of the transition has age 0; a place would have held too many tokens.
+    NoneStarted,
+    PlaceOverfull,
+    // 26, 27: of an end. A place has too few tokens to give back; too many firings would have had that age.
+    TooFewTokens,
+    CountOverfull,
+}
+
+impl Barrier {
+    pub fn number(self) -> u8
+        ensures { λ r. ⌜ r ≡ numberOfBarrier self ⌝ }
+    {
+        match self {
+            Barrier::SomeFresh => 21,
+            Barrier::NoneStarted => 24,
+            Barrier::PlaceOverfull => 25,
+            Barrier::TooFewTokens => 26,
+            Barrier::CountOverfull => 27,
+        }
     }
 }
 
@@ -35,8 +61,8 @@ pub enum Refusal {
     StartOwed,
     EndOwed,
     NothingRunning,
-    // 21: of a step back.
-    NoStateBefore,
+    // 21, 24 to 27: of a step back alone. It also tells 11, 12, 15, 18 and 20.
+    OnlyBack(Barrier),
 }
 
 impl Refusal {
@@ -54,7 +80,7 @@ impl Refusal {
             Refusal::StartOwed => 18,
             Refusal::EndOwed => 19,
             Refusal::NothingRunning => 20,
-            Refusal::NoStateBefore => 21,
+            Refusal::OnlyBack(barrier) => barrier.number(),
         }
     }
 
@@ -73,7 +99,7 @@ impl Refusal {
             Refusal::StartOwed => Short::nothing(),
             Refusal::EndOwed => Short::nothing(),
             Refusal::NothingRunning => Short::nothing(),
-            Refusal::NoStateBefore => Short::nothing(),
+            Refusal::OnlyBack(_) => Short::nothing(),
         }
     }
 }

@@ -47,9 +47,14 @@ undone-numbers = record {
   no-start = (refl, refl);
   no-end = (refl, refl);
   none-started = (refl, refl);
-  place-full = (refl, refl);
-  none-ended = (refl, refl);
+  none-started-first = (refl, refl);
+  place-overfull = (refl, refl);
+  outside = (refl, refl);
+  too-few = (refl, refl);
+  too-few-first = (refl, refl);
+  count-overfull = (refl, refl);
   start-owed = (refl, refl);
   fresh = (refl, refl);
+  fresh-first = (refl, refl);
   rest = (refl, refl);
 }

@@ -1,7 +1,7 @@
 -- An end of a transition, done and taken back, against the rules: what each return of the code answers, and what it leaves.
 -- Assumes nothing.
 use mathlib.Core.Path.{_≡_, refl, sym, _∙_}
-use mathlib.Core.Bool.{Bool, true, false}
+use mathlib.Core.Bool.{true, false}
 use mathlib.Core.List.{List}
 use Prim.Native.Nat.{ℕ, _+_, _-_, _<_, _≤_}
 use native.Mathlib.Omega.{arith}
@@ -11,6 +11,7 @@ use Rattle.model.specs.declared.age.Age.{Age}
 use Rattle.model.specs.declared.age.Column.{Column}
 use Rattle.model.specs.declared.net.Net.{Net as Shape}
 use Rattle.model.specs.declared.event.Event.the-variants as event
+use Rattle.model.specs.declared.answer.Barrier.the-variants as barrier
 use Rattle.model.specs.declared.answer.Refusal.the-variants as refusal
 use Rattle.model.specs.declared.answer.Answer.the-variants as answer
 use Rattle.model.specs.Age.{columnOf}
@@ -45,7 +46,7 @@ module _ (net : List ℕ) (shape : Shape) (b : List ℕ) (f : Framed net shape b
     end-untimely late = simp (known-test net shape b f t known, late) (refl, refl)
 
     pub unend-untimely : timely? (netOf net) t (age .0) ≡ false
-        → Answers net b (takenBack net b (event.End t age)) (answer.Refused refusal.NoStateBefore) b
+        → Answers net b (takenBack net b (event.End t age)) (answer.Refused refusal.OutsideInterval) b
     unfolding back
     unend-untimely late = simp (known-test net shape b f t known, late) (refl, refl)
 
@@ -55,7 +56,7 @@ module _ (net : List ℕ) (shape : Shape) (b : List ℕ) (f : Framed net shape b
       young = omega (arith, holds (timely-tells (netOf net) t (age .0)) timely .1, lfd-young net shape b f t known)
 
       pub unend-short : covers? (netOf net) (stored net b) (netOf net .gives t) ≡ false
-          → Answers net b (takenBack net b (event.End t age)) (answer.Refused refusal.NoStateBefore) b
+          → Answers net b (takenBack net b (event.End t age)) (answer.Refused (refusal.OnlyBack barrier.TooFewTokens)) b
       unfolding back
       unend-short short = simp (known-test net shape b f t known, timely, short) (refl, refl)
 
@@ -69,15 +70,10 @@ module _ (net : List ℕ) (shape : Shape) (b : List ℕ) (f : Framed net shape b
         end-none z =
             simp (known-test net shape b f t known, timely, lt-leb 1 (count (stored net b) t (age .0)) (omega (arith, stands))) (refl, refl)
 
-        -- whatever the places hold
-        pub unend-full : held? (v + 1) ≡ false → Answers net b (takenBack net b (event.End t age)) (answer.Refused refusal.NoStateBefore) b
+        pub unend-full : covers? (netOf net) (stored net b) (netOf net .gives t) ≡ true → held? (v + 1) ≡ false
+            → Answers net b (takenBack net b (event.End t age)) (answer.Refused (refusal.OnlyBack barrier.CountOverfull)) b
         unfolding back
-        unend-full full = go (covers? (netOf net) (stored net b) (netOf net .gives t)) refl
-          where
-            go : (covered : Bool) → covers? (netOf net) (stored net b) (netOf net .gives t) ≡ covered
-                → Answers net b (takenBack net b (event.End t age)) (answer.Refused refusal.NoStateBefore) b
-            go true e = simp (known-test net shape b f t known, timely, e, one-more stands full) (refl, refl)
-            go false e = simp (known-test net shape b f t known, timely, e) (refl, refl)
+        unend-full covered full = simp (known-test net shape b f t known, timely, covered, one-more stands full) (refl, refl)
 
         -- `from` is where the code found the weights
         module _ (from : ℕ) (right : (p : ℕ) → byte net (from + p) ≡ netOf net .gives t p) where

@@ -11,6 +11,7 @@ use Rattle.model.specs.declared.age.Column.{Column}
 use Rattle.model.specs.declared.net.Net.{Net as Shape}
 use Rattle.model.specs.declared.answer.Short.{Short}
 use Rattle.model.specs.declared.answer.Answer.the-variants as answer
+use Rattle.model.specs.declared.answer.Barrier.the-variants as barrier
 use Rattle.model.specs.declared.answer.Refusal.the-variants as refusal
 use Rattle.model.specs.declared.event.Event.the-variants as event
 use Rattle.model.specs.Age.{columnOf}
@@ -95,13 +96,13 @@ module _ (net : List ℕ) (shape : Shape) (b : List ℕ) (f : Framed net shape b
       some : ¬ (v ≡ 0) → leb 1 (count (stored net b) t 0) ≡ true
       some s = told-true (leb-tells 1 (count (stored net b) t 0)) (omega (arith, stands, s))
 
-      pub unstart-none : v ≡ 0 → Answers net b (takenBack net b (event.Start t)) (answer.Refused refusal.NoStateBefore) b
+      pub unstart-none : v ≡ 0 → Answers net b (takenBack net b (event.Start t)) (answer.Refused (refusal.OnlyBack barrier.NoneStarted)) b
       unfolding back
       unstart-none z = simp (known-test net shape b f t known, told-false (leb-tells 1 (count (stored net b) t 0)) (λ h. omega (arith, stands))) (refl, refl)
 
       -- `from`, where the weights stand; `room`, that every place has room for its weight
       module _ (s : ¬ (v ≡ 0)) (from : ℕ) (e : from ≡ inputsAt (shape .places) t) (room : Bool) (tested : room ≡ roomy? net from b (shape .places)) where
-        pub unstart-no-room : not room ≡ true → Answers net b (takenBack net b (event.Start t)) (answer.Refused refusal.NoStateBefore) b
+        pub unstart-no-room : not room ≡ true → Answers net b (takenBack net b (event.Start t)) (answer.Refused (refusal.OnlyBack barrier.PlaceOverfull)) b
         unfolding back
         unstart-no-room full = simp (known-test net shape b f t known, some s, sym (room-is from e) ∙ failed tested full) (refl, refl)
 

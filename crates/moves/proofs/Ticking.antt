@@ -11,6 +11,7 @@ use borrow.Author.Tests.{lt-ltb, le-ltb}
 use lib.ListN.{length}
 use Rattle.model.specs.declared.answer.Answer.{Answer}
 use Rattle.model.specs.declared.answer.Answer.the-variants as answer
+use Rattle.model.specs.declared.answer.Barrier.the-variants as barrier
 use Rattle.model.specs.declared.answer.Refusal.the-variants as refusal
 use Rattle.model.specs.declared.event.Event.the-variants as event
 use Rattle.model.specs.declared.net.Net.{Net as Shape}
@@ -163,7 +164,7 @@ module _ (net b : List ℕ) where
   unfolding apply
   tick-start-owed owed = simp owed (refl, refl)
 
-  pub untick-fresh : none-fresh? N₀ S₀ ≡ false → Answers net b (takenBack net b event.Tick) (answer.Refused refusal.NoStateBefore) b
+  pub untick-fresh : none-fresh? N₀ S₀ ≡ false → Answers net b (takenBack net b event.Tick) (answer.Refused (refusal.OnlyBack barrier.SomeFresh)) b
   unfolding back
   untick-fresh fresh = simp fresh (refl, refl)
 
@@ -183,12 +184,12 @@ module _ (net b : List ℕ) where
       tick-done runs b′ e = simp (calm, none, runs) (refl, e)
 
   module _ (none : none-fresh? N₀ S₀ ≡ true) where
-    pub untick-start-owed : no-start-owed? N₀ S₀ ≡ false → Answers net b (takenBack net b event.Tick) (answer.Refused refusal.NoStateBefore) b
+    pub untick-start-owed : no-start-owed? N₀ S₀ ≡ false → Answers net b (takenBack net b event.Tick) (answer.Refused refusal.StartOwed) b
     unfolding back
     untick-start-owed owed = simp (none, owed) (refl, refl)
 
     module _ (calm : no-start-owed? N₀ S₀ ≡ true) where
-      pub untick-rest : nothing-running? N₀ S₀ ≡ true → Answers net b (takenBack net b event.Tick) (answer.Refused refusal.NoStateBefore) b
+      pub untick-rest : nothing-running? N₀ S₀ ≡ true → Answers net b (takenBack net b event.Tick) (answer.Refused refusal.NothingRunning) b
       unfolding back
       untick-rest rest = simp (none, calm, rest) (refl, refl)
 

@@ -58,10 +58,20 @@ pub record UndoneNumbers : Type 0 where
   pub malformed : Undoes 0x81 0x00 rowState 11 rowState
   pub no-start : Undoes 0x03 0x00 rowState 12 rowState
   pub no-end : Undoes 0x43 0x00 rowState 12 rowState
-  pub none-started : Undoes 0x01 0x00 spent 21 spent
-  pub place-full : Undoes 0x01 0x00 (set (set (set rowState 8 0xFF) 9 0xFF) 15 1) 21 (set (set (set rowState 8 0xFF) 9 0xFF) 15 1)
-  pub none-ended : Undoes 0x42 0x00 spent 21 spent
-  pub start-owed : Undoes 0x00 0x00 rowState 21 rowState
+  pub none-started : Undoes 0x01 0x00 spent 24 spent
+  -- place 0 holds 65,535, and no firing runs; and then one does
+  pub none-started-first : Undoes 0x01 0x00 (set (set rowState 8 0xFF) 9 0xFF) 24 (set (set rowState 8 0xFF) 9 0xFF)
+  pub place-overfull : Undoes 0x01 0x00 (set (set (set rowState 8 0xFF) 9 0xFF) 15 1) 25 (set (set (set rowState 8 0xFF) 9 0xFF) 15 1)
+  -- transition 0 lasts 1 to 3 ticks, and a place is empty too
+  pub outside : Undoes 0x41 0x04 spent 15 spent
+  pub too-few : Undoes 0x42 0x00 spent 26 spent
+  -- 65,535 firings of transition 1 have age 0; place 2 is empty, and then has a token
+  pub too-few-first : Undoes 0x42 0x00 (set (set spent 22 0xFF) 23 0xFF) 26 (set (set spent 22 0xFF) 23 0xFF)
+  pub count-overfull : Undoes 0x42 0x00 (set (set (set spent 13 1) 22 0xFF) 23 0xFF) 27 (set (set (set spent 13 1) 22 0xFF) 23 0xFF)
+  -- a start is owed and nothing runs
+  pub start-owed : Undoes 0x00 0x00 rowState 18 rowState
   -- a count of age 0 at the front of a row does not pass to the row before
   pub fresh : Undoes 0x00 0x00 (set spent 23 1) 21 (set spent 23 1)
-  pub rest : Undoes 0x00 0x00 spent 21 spent
+  -- and it is told before a start that is owed
+  pub fresh-first : Undoes 0x00 0x00 (set rowState 23 1) 21 (set rowState 23 1)
+  pub rest : Undoes 0x00 0x00 spent 20 spent

@@ -1,13 +1,15 @@
-// Starts and ends of a transition, done (12 to 17) and taken back (12, 21).
+// Starts and ends of a transition, done (12 to 17) and taken back (12; 24, 25; 15, 26, 27).
 use crate::marking;
 use forms::net;
 use forms::places;
 use forms::words;
 use model::age::Age;
 use model::answer::Answer;
+use model::answer::Barrier;
 use model::answer::Refusal;
 use model::net::Net;
 use owed::counts;
+use owed::marks;
 use owed::starts;
 ghost use mathlib.Core.Path.{_≡_};
 ghost use Prim.Native.Nat.{_<_};
@@ -73,11 +75,11 @@ pub fn unstart(net: &[u8], shape: Net, state: &mut [u8], t: usize) -> Answer
     }
     let running = counts::count(net, shape, state, t, Age(0));
     if running == 0 {
-        return Answer::Refused(Refusal::NoStateBefore);
+        return Answer::Refused(Refusal::OnlyBack(Barrier::NoneStarted));
     }
     let from = places::inputs_at(shape.places, t);
     if !marking::give(net, from, state, shape.places) {
-        return Answer::Refused(Refusal::NoStateBefore);
+        return Answer::Refused(Refusal::OnlyBack(Barrier::PlaceOverfull));
     }
     words::write16(
         state,
@@ -121,15 +123,20 @@ pub fn unend(net: &[u8], shape: Net, state: &mut [u8], t: usize, age: Age) -> An
         return Answer::Refused(Refusal::NoSuchTransition);
     }
     if !timely(net, t, age) {
-        return Answer::Refused(Refusal::NoStateBefore);
+        return Answer::Refused(Refusal::OutsideInterval);
     }
     let running = counts::count(net, shape, state, t, age);
-    if !Net::held(running + 1) {
-        return Answer::Refused(Refusal::NoStateBefore);
-    }
     let from = places::outputs_at(shape.places, t);
+    if !Net::held(running + 1) {
+        // 26 is told before 27
+        if marks::short_place(net, from, state, shape.places) < shape.places {
+            return Answer::Refused(Refusal::OnlyBack(Barrier::TooFewTokens));
+        }
+        return Answer::Refused(Refusal::OnlyBack(Barrier::CountOverfull));
+    }
+    // the test that `short_place` makes, made as the tokens are taken
     if marking::take(net, from, state, shape.places) < shape.places {
-        return Answer::Refused(Refusal::NoStateBefore);
+        return Answer::Refused(Refusal::OnlyBack(Barrier::TooFewTokens));
     }
     words::write16(state, places::count_at(shape, t, age.column()), running + 1);
     Answer::Done

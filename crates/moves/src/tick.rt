@@ -1,7 +1,8 @@
-// A tick, done (18, 19, 20) and taken back (21).
+// A tick, done (18, 19, 20) and taken back (21, 18, 20).
 use crate::shift;
 use forms::places;
 use model::answer::Answer;
+use model::answer::Barrier;
 use model::answer::Refusal;
 use model::net::Net;
 use owed::counts;
@@ -60,13 +61,13 @@ pub fn untick(net: &[u8], shape: Net, state: &mut [u8]) -> Answer
     ensures { λ _. ⌜ now (state .exit) ≡ after (netOf (now (net .entry))) (takenBack (now (net .entry)) (now (state .entry)) event.Tick) (now (state .entry)) ⌝ }
 {
     if !counts::none_fresh(net, shape, state) {
-        return Answer::Refused(Refusal::NoStateBefore);
+        return Answer::Refused(Refusal::OnlyBack(Barrier::SomeFresh));
     }
     if !starts::no_start_owed(net, shape, state) {
-        return Answer::Refused(Refusal::NoStateBefore);
+        return Answer::Refused(Refusal::StartOwed);
     }
     if counts::nothing_running(net, shape, state) {
-        return Answer::Refused(Refusal::NoStateBefore);
+        return Answer::Refused(Refusal::NothingRunning);
     }
     move_back(net, shape, state);
     Answer::Done
@@ -95,7 +96,7 @@ pub fn untick_again(net: &[u8], shape: Net, state: &mut [u8]) -> Answer
 {
     let none_fresh = counts::none_fresh(net, shape, state);
     if !none_fresh {
-        return Answer::Refused(Refusal::NoStateBefore);
+        return Answer::Refused(Refusal::OnlyBack(Barrier::SomeFresh));
     }
     move_back(net, shape, state);
     Answer::Done
