@@ -23,7 +23,7 @@
  *
  * EVENTS. A transition is enabled where every place holds at least its input weight. A start takes the input weights from the
  * marking and begins a firing, of age 0. An end takes away one firing of its transition and age, and the output weights join the
- * marking. A tick makes every firing one tick older. When each is refused is said at numbers 11 to 27.
+ * marking. A tick makes every firing one tick older. When each is refused is said at numbers 11 to 21 and 24 to 27.
  *
  * A PAGE is a log that menu_page writes. It chooses an event, does it, writes it, and goes on: the end of a firing at its lfd, of the
  * lowest transition that has one; where there is none, the start of the lowest transition that is enabled; where there is none
@@ -135,7 +135,8 @@ extern "C" {
  * 0 but for a run and a walk.
  *
  * Of an event taken back 11 and 12 are told first; then of a tick 21, 18, 20, of a start 24, 25, of an end 15, 26, 27, in this order.
- * Each of these says why no lawful state leads here by the event, and one of them is told exactly where none does.
+ * They speak of the state from which the event is taken back. Each says why no lawful state leads there by the event, and behind 11
+ * and 12 one of them is told exactly where none does.
  */
 enum menu_number {
     MENU_ACCEPTED = 0,

@@ -103,8 +103,8 @@ def four(*marking, count=0):
     return bytes.fromhex("01 00 00 00 12 04 01 01") + words([*marking, count])
 
 
-def wide(tokens):
-    return bytes.fromhex("01 00 00 00 8A 40 01 01") + words([*tokens, 0])
+def wide(tokens, count=0):
+    return bytes.fromhex("01 00 00 00 8A 40 01 01") + words([*tokens, count])
 
 
 FOUR = four_net(0, 0, 0, 0)
@@ -158,6 +158,36 @@ def stopped(title, before, pairs, told, after):
     return title, "walk", [NET, before, log(*pairs), len(pairs)], told, after
 
 
+# a place; 64 transitions of one tick, of which the last takes and gives one token and the others 255
+TALL = bytes.fromhex("01 00 00 01 09 01 40 00 01") + bytes.fromhex("00 01 FF FF") * 63 + bytes.fromhex("01 01 01 01")
+START_63, END_63 = (64, 0), (128, 1)
+
+
+def tall(tokens, counts=None):
+    """The net's state with those tokens and those counts, by (transition, age)."""
+    values = [tokens] + [0] * 128
+    for (transition, age), count in (counts or {}).items():
+        values[1 + 2 * transition + age] = count
+    return bytes.fromhex("01 00 00 01 0A 01 40 02") + words(values)
+
+
+# a place, and a transition of 63 ticks that takes its token and gives it back
+SLOW = bytes.fromhex("01 00 00 00 0D 01 01 00 01 3F 3F 01 01")
+
+
+def slow(tokens, counts=None):
+    """The net's state with those tokens and those counts, by age."""
+    values = [tokens] + [0] * 64
+    for age, count in (counts or {}).items():
+        values[1 + age] = count
+    return bytes.fromhex("01 00 00 00 8A 01 01 40") + words(values)
+
+
+def at(place, tokens, elsewhere):
+    """The tokens of 64 places."""
+    return [tokens if p == place else elsewhere for p in range(64)]
+
+
 CROWDED = {(0, 0): 65535}
 FULL_AGE_1 = {(0, 1): 65535}
 
@@ -191,6 +221,36 @@ BARRED = [
     back("an end, no token", NET, INITIAL, end_0(1), 26),
     back("an end, no token and a full count: 26 before 27", NET, state([1, 0, 0], FULL_AGE_1), end_0(1), 26),
     back("an end, a full count", NET, state([0, 1, 0], FULL_AGE_1), end_0(1), 27),
+    back("a tick, 256 firings of age 0", NET, state([0, 0, 0], {(0, 0): 256}), TICK, 21),
+    back("a tick, 256 firings run", NET, state([0, 0, 0], {(0, 1): 256}), TICK, 0, state([0, 0, 0], {(0, 0): 256})),
+    back("a tick, the last of 64 transitions has age 0", TALL, tall(0, {(63, 0): 1}), TICK, 21),
+    back("a tick, the last of 64 transitions is enabled", TALL, tall(254, {(0, 1): 1}), TICK, 18),
+    back("a tick, the last of 64 transitions runs", TALL, tall(0, {(63, 1): 1}), TICK, 0, tall(0, {(63, 0): 1})),
+    back("a tick, a firing of age 63", SLOW, slow(0, {63: 1}), TICK, 0, slow(0, {62: 1})),
+    back("a tick, firings of ages 0 and 63", SLOW, slow(0, {0: 1, 63: 1}), TICK, 21),
+    back("a start, 256 firings of age 0", NET, state([0, 0, 0], {(0, 0): 256}), START_0, 0, state([1, 0, 0], {(0, 0): 255})),
+    back("a start, a full place whose weight is 255", FOUR, four(0, 0, 0, 65535, count=1), START_0, 25),
+    back("a start, of 64 places the last is full", WIDE, wide(at(63, 65535, 0), 1), START_0, 25),
+    back("a start, of 64 places the ninth is full", WIDE, wide(at(8, 65535, 0), 1), START_0, 25),
+    back("a start, of 64 places the last becomes full", WIDE, wide(at(63, 65534, 0), 1), START_0, 0, wide(at(63, 65535, 1))),
+    back("a start of the last of 64 transitions, others have age 0", TALL, tall(0, {(62, 0): 1, (63, 1): 1}), START_63, 24),
+    back("a start of the last of 64 transitions", TALL, tall(0, {(63, 0): 1}), START_63, 0, tall(1)),
+    back("an end, of 64 places the last is empty", WIDE, wide(at(63, 0, 1)), end_0(0), 26),
+    back("an end, of 64 places the ninth is empty", WIDE, wide(at(8, 0, 1)), end_0(0), 26),
+    back("an end, 64 empty places", WIDE, wide([0] * 64), end_0(0), 26),
+    back("an end, 64 places with a token", WIDE, wide([1] * 64), end_0(0), 0, wide([0] * 64, 1)),
+    back("an end, one token too few of 255", TALL, tall(254), end_0(1), 26),
+    back("an end, no token of 255", TALL, tall(0), end_0(1), 26),
+    back("an end, 255 tokens", TALL, tall(255), end_0(1), 0, tall(0, {(0, 1): 1})),
+    back("an end of the last of 64 transitions, a full count", TALL, tall(1, {(63, 1): 65535}), END_63, 27),
+    back("an end of the last of 64 transitions, full counts of others", TALL, tall(1, {(62, 1): 65535, (63, 0): 65535}), END_63,
+         0, tall(0, {(62, 1): 65535, (63, 0): 65535, (63, 1): 1})),
+    back("an end, 255 firings of its age", NET, state([0, 1, 0], {(0, 1): 255}), end_0(1), 0, state([0, 0, 0], {(0, 1): 256})),
+    back("an end at age 63, a full count", SLOW, slow(1, {63: 65535}), end_0(63), 27),
+    back("an end at age 63", SLOW, slow(1, {63: 65534}), end_0(63), 0, slow(0, {63: 65535})),
+    back("an end at age 62 of 63", SLOW, slow(1), end_0(62), 15),
+    back("an end at age 64 of 63", SLOW, slow(1), end_0(64), 15),
+    back("an end at age 127, which is 63 and 64", SLOW, slow(1), end_0(127), 15),
     back("11 before all", NET, state([0, 0, 0], {(0, 0): 1}), (0, 1), 11),
     back("12 before 24", NET, INITIAL, (3, 0), 12),
     back("12 before 15", NET, INITIAL, (67, 255), 12),
@@ -237,19 +297,6 @@ LOOPED = [START_0, end_0(0)]
 
 def loop(tokens, count=0):
     return bytes.fromhex("01 00 00 00 0C 01 01 01") + words([tokens, count])
-
-
-# a place; 64 transitions of one tick, of which the last takes and gives one token and the others 255
-TALL = bytes.fromhex("01 00 00 01 09 01 40 00 01") + bytes.fromhex("00 01 FF FF") * 63 + bytes.fromhex("01 01 01 01")
-START_63, END_63 = (64, 0), (128, 1)
-
-
-def tall(tokens, counts=None):
-    """The net's state with those tokens and those counts, by (transition, age)."""
-    values = [tokens] + [0] * 128
-    for (transition, age), count in (counts or {}).items():
-        values[1 + 2 * transition + age] = count
-    return bytes.fromhex("01 00 00 01 0A 01 40 02") + words(values)
 
 
 # in the row net start 0 takes from place 0 and end 0 gives to place 1, from which start 1 takes; end 1 gives to place 2

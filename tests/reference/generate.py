@@ -2,10 +2,10 @@
 """A seeded stream of requests for `menuask`: lawful, nearly lawful, damaged, at every limit.
 
 usage: generate.py SEED COUNT [--bad-end]    writes COUNT requests, and with --bad-end a bad one last
-       generate.py SEED COUNT --census       counts the reference's answers instead, by number and call, those of 13
-                                             by what its place and shortage tell apart, and pages by stop and by the
-                                             limits that they come near; of pages, steps back and walks those that
-                                             each wrong reading changes
+       generate.py SEED COUNT --census       counts the reference's answers instead, those to the cases of document01.py
+                                             too: by number and call, those of 13 by what its place and shortage tell
+                                             apart, and pages by stop and by the limits that they come near; of pages,
+                                             steps back and walks those that each wrong reading changes
        generate.py --menurun SEED N DIR      writes N inputs of `menurun` as files of that folder
 """
 
@@ -18,6 +18,7 @@ import random
 import sys
 
 import ask
+import document01
 import material
 import reference
 import wire
@@ -321,7 +322,7 @@ SCENARIOS = (
     (event_requests, 10),
     (limit_requests, 19),
     (short_requests, 6.5),
-    (tick_requests, 6),
+    (tick_requests, 10),
     (back_requests, 8),
     (barred_requests, 20),
     (degree_requests, 4),
@@ -797,8 +798,24 @@ def wrapping(write):
 
 def barring(kind, *numbers):
     """The numbers of that kind of event told in another order, or fewer of them."""
-    return {"BARRIERS": {**reference.BARRIERS, kind: numbers}, "write_state": wrapping(reference.write_state)}
+    return {"BACK_ORDER": {**reference.BACK_ORDER, kind: numbers}, "write_state": wrapping(reference.write_state)}
 
+
+def testing(number, test):
+    """One number's test by another reading, given the net, the state, the transition, its row and the age."""
+
+    def read(net, state, event):
+        holds = right(net, state, event)
+        if number in holds:
+            t = event.transition
+            holds[number] = test(net, state, t, net.transitions[t], event.age)
+        return holds
+
+    right = reference.back_tests
+    return {"back_tests": read, "write_state": wrapping(reference.write_state)}
+
+
+FULL = reference.MAX_TOKENS
 
 MISREAD_BACK = {
     "a tick: 18 before 21": barring(TICK, 18, 21, 20),
@@ -806,12 +823,44 @@ MISREAD_BACK = {
     "a tick: age 0 not asked": barring(TICK, 18, 20),
     "a tick: the marking not asked": barring(TICK, 21, 20),
     "a tick: taken back to where nothing ran": barring(TICK, 21, 18),
+    "a tick: age 0 of 32 transitions": testing(21, lambda net, state, t, row, age: any(ages[0] for ages in state.counts[:32])),
+    "a tick: age 0 by its low byte": testing(21, lambda net, state, t, row, age: any(ages[0] % 256 for ages in state.counts)),
+    "a tick: 32 transitions may be enabled": testing(
+        18, lambda net, state, t, row, age: any(reference.is_enabled(net, state, u) for u in range(len(net.transitions))[:32])
+    ),
+    "a tick: the last age does not run": testing(20, lambda net, state, t, row, age: not any(any(ages[:-1]) for ages in state.counts)),
     "a start: 25 before 24": barring(START, 25, 24),
+    "a start: no firing not asked": barring(START, 25),
+    "a start: firings of any transition": testing(24, lambda net, state, t, row, age: not any(ages[0] for ages in state.counts)),
+    "a start: firings of any age": testing(24, lambda net, state, t, row, age: not any(state.counts[t])),
+    "a start: firings by their low byte": testing(24, lambda net, state, t, row, age: state.counts[t][0] % 256 == 0),
+    "a start: a place full a token early": testing(25, lambda net, state, t, row, age: max(reference.more(state.marking, row.inputs)) >= FULL),
+    "a start: a place may pass by one": testing(25, lambda net, state, t, row, age: max(reference.more(state.marking, row.inputs)) > FULL + 1),
+    "a start: 25 of the outputs": testing(25, lambda net, state, t, row, age: max(reference.more(state.marking, row.outputs)) > FULL),
+    "a start: 25 of 8 places": testing(25, lambda net, state, t, row, age: max(reference.more(state.marking[:8], row.inputs)) > FULL),
+    "a start: 25 of 63 places": testing(25, lambda net, state, t, row, age: max(reference.more(state.marking[:63], row.inputs)) > FULL),
     "a start: a full place not asked": barring(START, 24),
     "an end: 26 before 15": barring(END, 26, 15, 27),
     "an end: 27 before 15": barring(END, 27, 15, 26),
     "an end: 27 before 26": barring(END, 15, 27, 26),
+    "an end: the sfd not asked": testing(15, lambda net, state, t, row, age: age > row.lfd),
+    "an end: D asked for the lfd": testing(15, lambda net, state, t, row, age: not row.sfd <= age < net.depth),
+    "an end: the age modulo 64": testing(15, lambda net, state, t, row, age: not row.sfd <= age % 64 <= row.lfd),
     "an end: too few tokens not asked": barring(END, 15, 27),
+    "an end: a token more is asked": testing(26, lambda net, state, t, row, age: min(reference.less(state.marking, row.outputs)) <= 0),
+    "an end: a place may lack one": testing(26, lambda net, state, t, row, age: min(reference.less(state.marking, row.outputs)) < -1),
+    "an end: 26 of the inputs": testing(26, lambda net, state, t, row, age: min(reference.less(state.marking, row.inputs)) < 0),
+    "an end: 26 of 8 places": testing(26, lambda net, state, t, row, age: min(reference.less(state.marking[:8], row.outputs)) < 0),
+    "an end: 26 of 63 places": testing(26, lambda net, state, t, row, age: min(reference.less(state.marking[:63], row.outputs)) < 0),
+    "an end: 26 where one place is short": testing(
+        26, lambda net, state, t, row, age: sum(rest < 0 for rest in reference.less(state.marking, row.outputs)) == 1
+    ),
+    "an end: full at 65,534": testing(27, lambda net, state, t, row, age: age < net.depth and state.counts[t][age] >= FULL - 1),
+    "an end: full by the low byte": testing(27, lambda net, state, t, row, age: age < net.depth and state.counts[t][age] % 256 == 255),
+    "an end: full at any age": testing(27, lambda net, state, t, row, age: FULL in state.counts[t]),
+    "an end: full by any transition": testing(
+        27, lambda net, state, t, row, age: age < net.depth and any(ages[age] == FULL for ages in state.counts)
+    ),
     "an end: a full count not asked": barring(END, 15, 26),
 }
 
@@ -886,6 +935,15 @@ def choice_kinds(net, state, event):
     }
 
 
+def shows(changes, name, arguments, line):
+    """Whether the request is answered otherwise, or not at all, where the reference is changed so."""
+    with misread(changes):
+        try:
+            return ask.answer(name, arguments) != line
+        except IndexError:
+            return True
+
+
 def readings(name, number):
     """The wrong readings to try on a request of that call which tells the number."""
     if name == "page" and number == 0:
@@ -900,7 +958,7 @@ def census(seed, count):
     names = [name for _, name, _ in wire.TABLE]
     told, short, stops, kinds, wrong = (collections.Counter() for _ in range(5))
     size = 0
-    for name, arguments in requests(seed, count):
+    for name, arguments in itertools.chain(document01.requests(document01.CASES), requests(seed, count)):
         line = ask.answer(name, arguments)
         number = int(line.split()[1])
         told[number, name] += 1
@@ -911,14 +969,13 @@ def census(seed, count):
             stops[int(line.split()[3])] += 1
             kinds.update({kind: int(holds) for kind, holds in page_kinds(arguments).items()})
         for reading, changes in readings(name, number):
-            with misread(changes):
-                wrong[reading, name] += ask.answer(name, arguments) != line
+            wrong[reading, name] += shows(changes, name, arguments, line)
         size += len(wire.encode(name, *arguments))
     print("number  " + "".join(f"{name:>12}" for name in names) + "       total")
     for number in range(28):
         row = [told[number, name] for name in names]
         print(f"{number:6}  " + "".join(f"{value or '.':>12}" for value in row) + f"{sum(row):12}")
-    print(f"{count} requests, {size} bytes")
+    print(f"{told.total()} requests, {size} bytes")
     print(f"\n{'of 13':44}{'event':>8}{'run':>8}")
     for kind in dict.fromkeys(kind for kind, _ in short):
         print(f"{kind:44}{short[kind, 'event']:8}{short[kind, 'run']:8}")

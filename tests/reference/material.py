@@ -184,7 +184,13 @@ def any_net(rng):
 
 
 def edge_value(rng):
-    return rng.choice([0, 1, 2, 65_534, 65_535, rng.randint(0, 255), rng.randint(0, MAX_TOKENS)])
+    return rng.choice([0, 1, 2, 255, 256, 65_280, 65_534, 65_535, rng.randint(0, 255), rng.randint(0, MAX_TOKENS)])
+
+
+def some_transition(rng, net):
+    """Any transition, the last one more often."""
+    last = len(net.transitions) - 1
+    return rng.choice([last, rng.randint(0, last), rng.randint(0, last)])
 
 
 def with_counts(net, counts):
@@ -247,19 +253,27 @@ def just_ticked_state(rng, net):
     return State(state.marking, with_counts(net, counts))
 
 
+def beyond(rng, weights):
+    """A place that has a weight, or several, and at each by how much its weight passes a limit:
+    mostly not at all or by one."""
+    places = [p for p, weight in enumerate(weights) if weight > 0]
+    chosen = {rng.choice([places[-1], rng.choice(places)]) for _ in range(rng.choice([1, 1, 1, 2, 3]))}
+    return {p: min(weights[p], rng.choice([0, 0, 0, 1, 1, 1, 2, 255])) for p in chosen}
+
+
 def filled(rng, weights):
-    """A marking that the weights fill to the limit at one place, or that they pass there by one."""
+    """A marking that the weights fill to the limit at a place or several, or that they pass there."""
     marking = [min(edge_value(rng), MAX_TOKENS - weight) for weight in weights]
-    p = rng.choice([p for p, weight in enumerate(weights) if weight > 0])
-    marking[p] = MAX_TOKENS - weights[p] + rng.choice([0, 1])
+    for p, by in beyond(rng, weights).items():
+        marking[p] = MAX_TOKENS - weights[p] + by
     return tuple(marking)
 
 
 def emptied(rng, weights):
-    """A marking from which the weights take all at one place, or one token more than there is."""
+    """A marking from which the weights take all at a place or several, or more than there is."""
     marking = [max(edge_value(rng), weight) for weight in weights]
-    p = rng.choice([p for p, weight in enumerate(weights) if weight > 0])
-    marking[p] = weights[p] - rng.choice([0, 1])
+    for p, by in beyond(rng, weights).items():
+        marking[p] = weights[p] - by
     return tuple(marking)
 
 
@@ -285,38 +299,46 @@ def end_at_limit(rng, net):
 
 def start_back_at_limit(rng, net):
     """A state where taking a start back fills a place to its limit or passes it."""
-    t = rng.randrange(len(net.transitions))
+    t = some_transition(rng, net)
     counts = some_counts(rng, net, lambda: edge_value(rng))
-    counts[t, 0] = rng.choice([0, 1, 1, 2, 65_534, 65_535])
+    counts[t, 0] = rng.choice([0, 0, 1, 1, 2, 256, 65_280, 65_534, 65_535])
     return State(filled(rng, net.transitions[t].inputs), with_counts(net, counts)), (1 + t, 0)
 
 
 def end_back_at_limit(rng, net):
     """A state where taking an end back meets an empty place or a full count."""
-    t = rng.randrange(len(net.transitions))
+    t = some_transition(rng, net)
     row = net.transitions[t]
-    age = rng.randint(row.sfd, row.lfd)
+    age = rng.choice([row.lfd, rng.randint(row.sfd, row.lfd)])
     counts = some_counts(rng, net, lambda: edge_value(rng))
-    counts[t, age] = rng.choice([0, 1, 65_534, 65_535, 65_535])
+    counts[t, age] = rng.choice([0, 1, 255, 65_534, 65_535, 65_535, 65_535])
     return State(emptied(rng, row.outputs), with_counts(net, counts)), (65 + t, age)
 
 
-def tick_back(rng, net):
-    """A state of any kind, from which a tick is to be taken back."""
-    make = rng.choice([just_ticked_state, just_ticked_state, quiet_state, small_state, wild_state])
-    return make(rng, net), (0, 0)
-
-
 def end_back_outside(rng, net):
-    """The same for an end at an age just outside the interval, or far; below it the count may be full."""
+    """The same at an age just outside the interval, or far; below it the count may be full."""
     state, (first, _) = end_back_at_limit(rng, net)
     t = first - 65
     row = net.transitions[t]
-    age = rng.choice([max(row.sfd - 1, 0), max(row.sfd - 1, 0), row.lfd + 1, net.depth, 255])
+    age = rng.choice([max(row.sfd - 1, 0), max(row.sfd - 1, 0), row.lfd + 1, net.depth, row.lfd + 64, row.lfd + 128, 255])
     if age < row.sfd and rng.random() < 0.6:
         full = reference.with_count(state.counts, t, age, MAX_TOKENS - state.counts[t][age])
         state = state._replace(counts=full)
     return state, (first, age)
+
+
+def lone_firing(rng, net):
+    """Firings of one transition and one age, and nothing enabled or just that transition."""
+    t = some_transition(rng, net)
+    row = net.transitions[t]
+    counts = with_counts(net, {(t, rng.choice([0, row.lfd, rng.randint(0, row.lfd)])): rng.choice([1, 2, 256, 65_535])})
+    return State(rng.choice([quiet_state(rng, net).marking, row.inputs]), counts)
+
+
+def tick_back(rng, net):
+    """A state of any kind, from which a tick is to be taken back."""
+    make = rng.choice([just_ticked_state, lone_firing, lone_firing, quiet_state, small_state, wild_state])
+    return make(rng, net), (0, 0)
 
 
 # what makes a state from which the step back may be refused by the number
@@ -335,7 +357,7 @@ BARRED = {
 def barred_step(rng, number):
     """A net, a state, and an event that is refused by the number when it is taken back from there."""
     while True:
-        net = any_net(rng)
+        net = rng.choice([any_net, any_net, any_net, slow_net, wide_net, tall_net])(rng)
         state, pair = BARRED[number](rng, net)
         try:
             reference.backward(net, state, reference.read_event(net, *pair))

@@ -93,6 +93,7 @@ further = record {
   two-back = (refl, refl);
   six-back = (refl, refl);
   none-back = (refl, refl);
+  one-back = (refl, refl);
   overdue-state = refl;
   overdue-event = (refl, refl);
   short-event = (refl, refl);

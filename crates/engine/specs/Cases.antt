@@ -177,6 +177,9 @@ pub record Further : Type 0 where
   pub six-back : (walkTold rowNet filled rowLog 6 ≡ saysWalk 22 0 0 0) × (walkLeft rowNet filled rowLog 6 ≡ filled)
   -- a walk that stops: the last event cannot have led to the initial state
   pub none-back : (walkTold rowNet rowState rowLog 5 ≡ saysWalk 26 4 0 0) × (walkLeft rowNet rowState rowLog 5 ≡ rowState)
+  -- and on its way: start 1, a tick, walked back from where transition 0 has age 1. The tick is taken back, and start 1 left no firing
+  pub one-back : (walkTold rowNet (rowStateWith noMarks atAge1 noCounts) (log 0x09 (0x02 ∷ 0x00 ∷ 0x00 ∷ 0x00 ∷ [])) 2 ≡ saysWalk 24 0 1 1)
+      × (walkLeft rowNet (rowStateWith noMarks atAge1 noCounts) (log 0x09 (0x02 ∷ 0x00 ∷ 0x00 ∷ 0x00 ∷ [])) 2 ≡ rowStateWith noMarks atAge0 noCounts)
   -- a state with a count above its transition's lfd
   pub overdue-state : stateTold rowNet overdue ≡ says 9 1
   pub overdue-event : (eventTold rowNet overdue 0x00 0x00 ≡ saysEvent 9 1 noPlace) × (eventLeft rowNet overdue 0x00 0x00 ≡ overdue)

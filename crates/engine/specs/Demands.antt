@@ -16,8 +16,8 @@ use Rattle.model.specs.Event.{eventOf}
 use Rattle.model.specs.Tab.{Tells}
 use Rattle.model.specs.Net.{State, Lawful}
 use Rattle.model.specs.Moves.{Degree, Moves}
-use Rattle.model.specs.Refusals.{Unfit, Refuses, FallsShort, JustShort, Barred}
-use Rattle.model.specs.Run.{RunTold as RunAccount, WalkTold as WalkAccount, Leads, Ran, Walked, eventAt, eventBefore, lastOf, ticksIn}
+use Rattle.model.specs.Refusals.{Unfit as UnfitEvent, Refuses, FallsShort, JustShort, Barred}
+use Rattle.model.specs.Run.{RunTold as RunAccount, WalkTold as WalkAccount, Leads, Ran, Walked, eventAt, eventBeforeLast, lastOf, ticksIn}
 use Rattle.model.specs.Owed.{OwesStart, OwesEnd, HowMany, wordBits, Lowest, Stands}
 use Rattle.model.specs.Demands.{SomeLeads, NoStateBefore}
 use Rattle.forms.specs.declared.fault.Fault.{Fault}
@@ -152,7 +152,7 @@ pub record EventBack (net b : List ℕ) (first second : ℕ) (r : Verdict) (b′
   -- each refusal is told exactly when request W4 says
   pub refused : (why : Refusal) → (r ≡ says (numberOfRefusal why) 0) ↔ Barred (netOf net) (stored net b) (eventOf first second) why
   -- and behind 11 and 12 one is told exactly if no lawful state leads here
-  pub no-state-before : ((why : Refusal) × (r ≡ says (numberOfRefusal why) 0) × ¬ Unfit (netOf net) (eventOf first second) why)
+  pub no-state-before : ((why : Refusal) × (r ≡ says (numberOfRefusal why) 0) × ¬ UnfitEvent (netOf net) (eventOf first second) why)
       ↔ NoStateBefore (netOf net) (stored net b) (eventOf first second)
   -- and where it is refused no byte changes
   pub kept : ¬ (r .number ≡ 0) → b′ ≡ b
@@ -180,16 +180,16 @@ pub record LogBack (net b log : List ℕ) (n : ℕ) (r : WalkTold) (b′ : List 
       × LeavesState net b b′ S
   -- what is told of any walk, accepted or refused, is exact, and the state where it stops is left
   pub told : (S : State) × Walked (netOf net) (stored net b) (logEvents log) n (accountOfWalk r S) × LeavesState net b b′ S
-  -- a refusal stops it behind k events, in S, exactly if S is lawful, they lead from S here, and S bars the event before them
+  -- a refusal stops it behind k of them, in S, exactly if S is lawful, these k lead from S here, and S bars the event before them
   pub refused : n ≤ length (logEvents log) → (k : ℕ) (why : Refusal) (S : State)
       → StopsBehind net b log k why S r b′
       ↔ ((k < n) × Lawful (netOf net) S × Leads (netOf net) S (lastOf k (logEvents log)) (stored net b)
-      × Barred (netOf net) S (eventBefore (logEvents log) k) why)
+      × Barred (netOf net) S (eventBeforeLast k (logEvents log)) why)
   -- and behind 11 and 12 one does exactly if no lawful state leads to S by that event
   pub no-state-before : n ≤ length (logEvents log) → (k : ℕ) (S : State)
-      → ((why : Refusal) × StopsBehind net b log k why S r b′ × ¬ Unfit (netOf net) (eventBefore (logEvents log) k) why)
+      → ((why : Refusal) × StopsBehind net b log k why S r b′ × ¬ UnfitEvent (netOf net) (eventBeforeLast k (logEvents log)) why)
       ↔ ((k < n) × Lawful (netOf net) S × Leads (netOf net) S (lastOf k (logEvents log)) (stored net b)
-      × NoStateBefore (netOf net) S (eventBefore (logEvents log) k))
+      × NoStateBefore (netOf net) S (eventBeforeLast k (logEvents log)))
   -- 22: more events are asked than the log has, and no byte changes
   pub too-many : length (logEvents log) < n → (r ≡ saysWalk 22 0 0 0) × (b′ ≡ b)
 

@@ -1,4 +1,4 @@
--- The numbers: `apply` and `back` tell each refusal exactly when document 01's table has it.
+-- The numbers: `apply` and `back` tell each refusal exactly when the table has it.
 -- Assumes nothing.
 use mathlib.Core.Path.{_≡_, refl, sym, ap, _∙_}
 use mathlib.Core.Logic.{_↔_}

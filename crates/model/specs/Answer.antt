@@ -1,4 +1,5 @@
--- Document 01's numbers for the answer to an event, done or taken back, with the place that 13 tells of, and for the standing.
+-- The numbers for the answer to an event, done or taken back, with the place that 13 tells of, and for the standing: document 01's, and
+-- 24 to 27 of request W4.
 -- Assumes nothing.
 use Prim.Native.Nat.{ℕ}
 use Rattle.model.specs.declared.answer.Short.{Short}

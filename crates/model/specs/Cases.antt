@@ -209,13 +209,15 @@ furtherCases =
     ∷ undoes childrensRow filled (end 2 0) (undone 12 filled)
     -- no such transition, though a start of it would find no token: 12 before 13
     ∷ does slowMiddle idle (start 3) (answers 12 idle)
-    -- a start taken back, and three that cannot have been: place 0 would have held 65,536; no firing has age 0; both, 24 before 25
+    -- a start taken back, once up to a full place; three that cannot have been: place 0 would have held 65,536; no firing has age 0; both,
+    -- 24 before 25
     ∷ undoes childrensRow (state (marks 0 0 0) (ages 1 0 0 0) none) (start 0) (undone 0 (state (marks 1 0 0) none none))
+    ∷ undoes childrensRow (state (marks 65534 0 0) (ages 1 0 0 0) none) (start 0) (undone 0 (state (marks 65535 0 0) none none))
     ∷ undoes childrensRow (state (marks 65535 0 0) (ages 1 0 0 0) none) (start 0) (undone 25 (state (marks 65535 0 0) (ages 1 0 0 0) none))
     ∷ undoes childrensRow (loaded 0) (start 0) (undone 24 (loaded 0))
     ∷ undoes childrensRow (state (marks 65535 0 0) none none) (start 0) (undone 24 (state (marks 65535 0 0) none none))
     -- a tick taken back, and some that cannot have been: a firing has age 0; the marking enables transition 0; both, 21 before 18;
-    -- nothing runs (K10 has both of the last two, 18 before 20)
+    -- nothing runs. K10: transition 0 is enabled and nothing runs, 18 before 20
     ∷ undoes childrensRow (loaded 0) tick (undone 0 (state (marks 0 0 0) (ages 1 0 0 0) none))
     ∷ undoes childrensRow (state (marks 0 0 0) (ages 1 1 0 0) none) tick (undone 21 (state (marks 0 0 0) (ages 1 1 0 0) none))
     ∷ undoes childrensRow (state (marks 1 0 0) (ages 0 1 0 0) none) tick (undone 18 (state (marks 1 0 0) (ages 0 1 0 0) none))
@@ -232,13 +234,15 @@ furtherCases =
     ∷ does heavy (laden 1 0 0 0 0) (start 0) (falls-short 0 1 (laden 1 0 0 0 0))
     ∷ does heavy (laden 5 0 65534 0 0) (start 0) (answers 0 (laden 3 0 65535 0 0))
     ∷ does heavy (laden 5 0 65535 0 0) (start 0) (answers 14 (laden 5 0 65535 0 0))
-    -- an end taken back, up to a filled count; one token short; with a filled count; both, 26 before 27; one that came too late, 15 before 26
+    -- an end taken back, up to a filled count; one token short; with a filled count; both, 26 before 27; ends
+    -- too late and too early, 15 before 26
     ∷ undoes heavy (laden 0 3 0 0 0) (end 0 2) (undone 0 (laden 0 0 0 0 1))
     ∷ undoes heavy (laden 0 3 0 0 65534) (end 0 2) (undone 0 (laden 0 0 0 0 65535))
     ∷ undoes heavy (laden 0 2 0 0 0) (end 0 2) (undone 26 (laden 0 2 0 0 0))
     ∷ undoes heavy (laden 0 3 0 0 65535) (end 0 2) (undone 27 (laden 0 3 0 0 65535))
     ∷ undoes heavy (laden 0 2 0 0 65535) (end 0 2) (undone 26 (laden 0 2 0 0 65535))
     ∷ undoes heavy (laden 0 2 0 0 0) (end 0 3) (undone 15 (laden 0 2 0 0 0))
+    ∷ undoes childrensRow first (end 0 0) (undone 15 (state (marks 1 0 0) none none))
     -- the lowest of two places that lack tokens, after one that has just enough; and a run that ends where all three are short
     ∷ does threefold (trio 2 2 1 0) (start 0) (falls-short 1 2 (trio 2 2 1 0))
     ∷ runs threefold (trio 4 9 9 0) (start 0 ∷ start 0 ∷ start 0 ∷ []) (stops-short 0 2 2 0 (trio 0 1 1 2)) 2

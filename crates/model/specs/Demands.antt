@@ -16,7 +16,7 @@ use Rattle.model.specs.Net.{Net, State, Proper, Lawful, IsWidth, Initial
 use Rattle.model.specs.Moves.{Enabled, Lacks, Degree, Moves}
 use Rattle.model.specs.Refusals.{Unfit, Fit, Refuses, FallsShort, JustShort, Barred}
 use Rattle.model.specs.Rules.{done, refused, apply, back, degree}
-use Rattle.model.specs.Run.{RunTold, WalkTold, Leads, Ran, Walked, run, walk, eventAt, eventBefore, lastOf}
+use Rattle.model.specs.Run.{RunTold, WalkTold, Leads, Ran, Walked, run, walk, eventAt, eventBeforeLast, lastOf}
 use Rattle.model.specs.Run.{acceptedRun, shortRun, acceptedWalk, stoppedWalk}
 use Rattle.model.specs.Owed.{Report, Reports, owed}
 
@@ -79,14 +79,14 @@ pub record Demand3 (N : Net) : Type 0 where
   -- a walk from any lawful state is accepted exactly if the last n events lead here from a lawful state, which it gives
   pub walk-accepted : (S′ : State) → Lawful N S′ → (es : List Event) (n : ℕ) → n ≤ length es → (S : State)
       → (walk N S′ es n ≡ acceptedWalk es n S) ↔ (Lawful N S × Leads N S (lastOf n es) S′)
-  -- a refusal stops it behind k events, in S, exactly if S is lawful, they lead from S here, and S bars the event before them
+  -- a refusal stops it behind k of them, in S, exactly if S is lawful, these k lead from S here, and S bars the event before them
   pub walk-refused : (S′ : State) → Lawful N S′ → (es : List Event) (n : ℕ) → n ≤ length es → (k : ℕ) (why : Refusal) (S : State)
       → (walk N S′ es n ≡ stoppedWalk es k why S)
-      ↔ ((k < n) × Lawful N S × Leads N S (lastOf k es) S′ × Barred N S (eventBefore es k) why)
+      ↔ ((k < n) × Lawful N S × Leads N S (lastOf k es) S′ × Barred N S (eventBeforeLast k es) why)
   -- and behind 11 and 12 one does exactly if no lawful state leads to S by that event
   pub walk-no-state-before : (S′ : State) → Lawful N S′ → (es : List Event) (n : ℕ) → n ≤ length es → (k : ℕ) (S : State)
-      → ((why : Refusal) × (walk N S′ es n ≡ stoppedWalk es k why S) × ¬ Unfit N (eventBefore es k) why)
-      ↔ ((k < n) × Lawful N S × Leads N S (lastOf k es) S′ × NoStateBefore N S (eventBefore es k))
+      → ((why : Refusal) × (walk N S′ es n ≡ stoppedWalk es k why S) × ¬ Unfit N (eventBeforeLast k es) why)
+      ↔ ((k < n) × Lawful N S × Leads N S (lastOf k es) S′ × NoStateBefore N S (eventBeforeLast k es))
   -- and what is told of any walk is exact
   pub walk-told : (S′ : State) → Lawful N S′ → (es : List Event) (n : ℕ) (r : WalkTold) → (r ≡ walk N S′ es n) ↔ Walked N S′ es n r
 

@@ -1,4 +1,5 @@
--- Document 01's table of numbers for one event: which refusal is given exactly when. Each stands behind those before it.
+-- The table of numbers for one event, document 01's and request W4's: which refusal is given exactly when. Each stands behind those
+-- before it.
 -- Assumes nothing.
 use mathlib.Core.Path.{_≡_}
 use Prim.Native.Nat.{ℕ, suc, _-_, _<_, _≤_}
@@ -51,7 +52,7 @@ pub data Refuses (N : Net) (S : State) : Event → Refusal → Type 0 where
   end-owed : NoStartOwed N S → ¬ NoEndOwed N S → Refuses N S event.Tick refusal.EndOwed
   nothing-running : NoStartOwed N S → NoEndOwed N S → NothingRunning N S → Refuses N S event.Tick refusal.NothingRunning
 
--- request W4: the event cannot be taken back from S′, and why. Of a tick 21, 18, 20; of a start 24, 25; of an end 15, 26, 27
+-- 11, 12, and request W4's: of a tick 21, 18, 20; of a start 24, 25; of an end 15, 26, 27. The event cannot be taken back from S′, and why
 pub data Barred (N : Net) (S′ : State) : Event → Refusal → Type 0 where
   unfit : {e : Event} {why : Refusal} → Unfit N e why → Barred N S′ e why
   some-fresh : ¬ NoneFresh N S′ → Barred N S′ event.Tick (refusal.OnlyBack barrier.SomeFresh)

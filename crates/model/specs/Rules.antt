@@ -1,5 +1,5 @@
 -- The rules of the events as functions that compute: one event done, one event taken back, the degree. Their only control
--- structure is `unless`, in document 01's order. proofs/ ties them to the relations of Moves.antt and Refusals.antt.
+-- structure is `unless`, in the order of the numbers' table. proofs/ ties them to the relations of Moves.antt and Refusals.antt.
 -- Assumes nothing.
 use mathlib.Core.Bool.{Bool, cond, _&&_, not}
 use Prim.Native.Nat.{ℕ, zero, suc, _+_, _-_, _/_}

@@ -1,4 +1,4 @@
-// What one event answers, done or taken back, and the numbers of document 01.
+// What one event answers, done or taken back, and its number: document 01's, and 24 to 27 of request W4.
 ghost use mathlib.Core.Path.{_≡_};
 ghost use Rattle.model.specs.Answer.{nothingShort, numberOfBarrier, numberOfRefusal, shortOfRefusal, numberOf, shortOf, numberOfStanding};
 
@@ -18,7 +18,7 @@ impl Short {
     }
 }
 
-// Why an event cannot be taken back, where doing one knows no such reason.
+// Why an event is not taken back: the reasons that are never told of an event done.
 pub enum Barrier {
     // 21: of a tick. A firing has age 0.
     SomeFresh,

@@ -125,7 +125,7 @@ returns-4 c =
     let at = c .before .before .before .before .before .before in
     let tried = c .before .before .short-place in
     unend-full net (e .args .shape) b (e .pre) (e .args .t) (e .args .age) (known (c .before .before .before .before .before .before .before .before .before .before .before)) (timely (c .before .before .before .before .before .before .before .before .before)) (found .result) (found .ensures .0)
-    (sym (covers at) ∙ short-none net (at .outputs-at .result) b (e .args .shape .places) (tried .result) (tried .ensures) (omega (arith, c .if4 .left)))
+    (sym (covers at) ∙ short-none net (at .outputs-at .result) b (e .args .shape .places) (tried .result) (tried .ensures) (c .if4 .left))
     (failed (c .before .before .before .before .before .held .ensures) (c .before .before .before .before .if3 .taken))
 
 take-requires : tie.Need-take-requires
