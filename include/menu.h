@@ -135,8 +135,8 @@ extern "C" {
  * 0 but for a run and a walk.
  *
  * Of an event taken back 11 and 12 are told first; then of a tick 21, 18, 20, of a start 24, 25, of an end 15, 26, 27, in this order.
- * They speak of the state from which the event is taken back. Each says why no lawful state leads there by the event, and behind 11
- * and 12 one of them is told exactly where none does.
+ * 11, 12 and 15 speak of the event alone, the others of the state from which it is taken back. Each of those behind 11 and 12 says why
+ * no lawful state leads there by the event, and one of them is told exactly where none does.
  */
 enum menu_number {
     MENU_ACCEPTED = 0,
@@ -170,7 +170,7 @@ enum menu_number {
     MENU_SOME_FRESH = 21,          /* tick taken back: a firing has age 0, and a tick leaves none */
     MENU_NONE_STARTED = 24,        /* start taken back: no firing of the transition has age 0 */
     MENU_PLACE_OVERFULL = 25,      /* start taken back: a place would have held more than 65,535 tokens before it */
-    MENU_TOO_FEW_TOKENS = 26,      /* end taken back: a place holds fewer tokens than the end gave it */
+    MENU_TOO_FEW_TOKENS = 26,      /* end taken back: a place holds fewer tokens than the end gives it */
     MENU_COUNT_OVERFULL = 27,      /* end taken back: the count at that age is 65,535, and would have been one more before it */
     /* the request */
     MENU_TOO_MANY = 22,            /* walk: more events asked than the log has */
