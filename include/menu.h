@@ -135,8 +135,8 @@ extern "C" {
  * 0 but for a run and a walk.
  *
  * Of an event taken back 11 and 12 are told first; then of a tick 21, 18, 20, of a start 24, 25, of an end 15, 26, 27, in this order.
- * 11, 12 and 15 speak of the event alone, the others of the state from which it is taken back. Each of those behind 11 and 12 says why
- * no lawful state leads there by the event, and one of them is told exactly where none does.
+ * 11, 12 and 15 speak of the event alone, the others of the state from which it is taken back. Of an event that 11 and 12 pass, one of
+ * those behind them is told exactly where no lawful state leads there by it, and says why.
  */
 enum menu_number {
     MENU_ACCEPTED = 0,
