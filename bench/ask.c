@@ -14,7 +14,8 @@ static void show(const uint8_t *s, size_t len)
 
 static void answer_request(const Request *r, Kind kind)
 {
-    Call c = {kind, r->slice[0], r->slice[1], r->slice[2], r->size[0], r->size[1], r->size[2], r->number[0], {0}};
+    Call c = {.kind = kind, .net = r->slice[0], .state = r->slice[1], .log = r->slice[2], .net_len = r->size[0], .state_len = r->size[1],
+              .log_len = r->size[2], .n = kind == RUN ? 0 : r->number[0], .started = r->number[kind == RUN ? 0 : 1]};
     agree("a request", &c);
     printf("%s", kind_names[kind]);
     for (size_t i = 0; i < fields(&c); i++)

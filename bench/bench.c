@@ -24,11 +24,13 @@ static double now(void)
     return (double)t.tv_sec + 1e-9 * (double)t.tv_nsec;
 }
 
-// A call on an input. A walk takes the whole log back. A page is written to a buffer of its own, as long as a log can be.
+// A call on an input, whose log begins with no start made. A walk takes the whole log back. A page is written to a buffer of its own, as
+// long as a log can be.
 static Call call_of(Kind kind, Input *input, uint8_t *state, size_t budget)
 {
     static uint8_t page[MAX_LOG];
-    Call c = {kind, input->net, state, input->log, input->net_len, input->state_len, input->log_len, (input->log_len - 5) / 2, {0}};
+    Call c = {.kind = kind, .net = input->net, .state = state, .log = input->log, .net_len = input->net_len,
+              .state_len = input->state_len, .log_len = input->log_len, .n = (input->log_len - 5) / 2};
     if (kind == PAGE) {
         c.log = page;
         c.log_len = sizeof page;

@@ -15,8 +15,9 @@ typedef struct {
     // The arcs of transition t are those from number first[t] up to first[t + 1].
     uint16_t in_first[MAX_TRANSITIONS + 1], out_first[MAX_TRANSITIONS + 1];
     Arc in[MAX_TRANSITIONS * MAX_PLACES], out[MAX_TRANSITIONS * MAX_PLACES];
-    // Where the count at the lfd stands in the clock.
-    uint16_t due_at[MAX_TRANSITIONS];
+    // Where the count at the lfd stands in the clock; and again without the transitions whose lfd is 0.
+    uint16_t due_at[MAX_TRANSITIONS], old_due_at[MAX_TRANSITIONS];
+    unsigned old_dues;
 } Net;
 
 typedef struct {
@@ -25,6 +26,10 @@ typedef struct {
     uint64_t running;
     // Known: the marking enables no transition.
     bool calm;
+    // Known: no end of age 1 or more is owed.
+    bool old_ended;
+    // A start has happened in the step. Carried along by a run alone.
+    bool started;
 } State;
 
 // Lists the weights above 0 behind the arcs that are there, and tells how many there are now.
@@ -75,8 +80,12 @@ static unsigned read_net(const uint8_t *s, size_t len, Net *net, uint64_t *index
     }
     *index = 0;
     net->width = longest + 1;
-    for (unsigned t = 0; t < transitions; t++)
+    net->old_dues = 0;
+    for (unsigned t = 0; t < transitions; t++) {
         net->due_at[t] = (uint16_t)(t * net->width + net->lfd[t]);
+        if (net->lfd[t])
+            net->old_due_at[net->old_dues++] = net->due_at[t];
+    }
     return 0;
 }
 
@@ -107,6 +116,7 @@ static unsigned read_state(const Net *net, const uint8_t *s, size_t len, State *
     }
     state->running = running;
     state->calm = false;
+    state->old_ended = false;
     return 0;
 }
 

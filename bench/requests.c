@@ -4,8 +4,8 @@
 #include <stdlib.h>
 #include <string.h>
 
-// The parameters of each kind of request: s a slice, n a number, b a number that is a byte.
-static const char *const parameters[] = {"", "s", "ss", "ss", "ssbb", "ssbb", "ssn", "ss", "sss", "sssn", "sn", "sssn"};
+// The parameters of each kind of request: s a slice, n a number, b a number that is a byte, f one that is 0 or 1.
+static const char *const parameters[] = {"", "s", "ss", "ss", "ssbbf", "ssbbf", "ssn", "ss", "sssf", "sssnf", "sn", "sssn"};
 
 static int read_number(size_t *v)
 {
@@ -39,7 +39,7 @@ int read_request(Request *r)
     for (const char *p = parameters[r->call]; *p; p++) {
         if (*p == 's' ? !(r->slice[slices] = read_slice(&r->size[slices])) : !read_number(&r->number[numbers]))
             return 0;
-        if (*p == 'b' && r->number[numbers] > 255)
+        if ((*p == 'b' && r->number[numbers] > 255) || (*p == 'f' && r->number[numbers] > 1))
             return 0;
         *p == 's' ? slices++ : numbers++;
     }

@@ -15,7 +15,7 @@ enum { MAX_SLICE = 65536 };
 typedef struct {
     int call;
     uint8_t *slice[3];
-    size_t size[3], number[2];
+    size_t size[3], number[3];
 } Request;
 
 // Reads the next request; 0 at the end of the input, and where it is no request. Its slices are to be freed.

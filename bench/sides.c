@@ -8,8 +8,8 @@
 #include <stdlib.h>
 #include <string.h>
 
-typedef void Run(const uint8_t *, size_t, uint8_t *, size_t, const uint8_t *, size_t, uint64_t[6]);
-typedef void Walk(const uint8_t *, size_t, uint8_t *, size_t, const uint8_t *, size_t, size_t, uint64_t[4]);
+typedef void Run(const uint8_t *, size_t, uint8_t *, size_t, const uint8_t *, size_t, uint64_t, uint64_t[7]);
+typedef void Walk(const uint8_t *, size_t, uint8_t *, size_t, const uint8_t *, size_t, size_t, uint64_t, uint64_t[4]);
 typedef void Page(const uint8_t *, size_t, uint8_t *, size_t, uint8_t *, size_t, size_t, uint64_t[5]);
 
 // The engine's C interface: the crate `menu`.
@@ -28,14 +28,14 @@ void call(Side side, Call *c)
     if (side == NOTHING)
         return;
     if (c->kind == RUN)
-        runs[side](c->net, c->net_len, c->state, c->state_len, c->log, c->log_len, c->answer);
+        runs[side](c->net, c->net_len, c->state, c->state_len, c->log, c->log_len, c->started, c->answer);
     else if (c->kind == WALK)
-        walks[side](c->net, c->net_len, c->state, c->state_len, c->log, c->log_len, c->n, c->answer);
+        walks[side](c->net, c->net_len, c->state, c->state_len, c->log, c->log_len, c->n, c->started, c->answer);
     else
         pages[side](c->net, c->net_len, c->state, c->state_len, c->log, c->log_len, c->n, c->answer);
 }
 
-size_t fields(const Call *c) { return c->kind == RUN ? 6 : c->kind == WALK ? 4 : 5; }
+size_t fields(const Call *c) { return c->kind == RUN ? 7 : c->kind == WALK ? 4 : 5; }
 
 size_t events_told(const Call *c) { return c->answer[c->kind == PAGE ? 3 : 2]; }
 
@@ -50,7 +50,7 @@ void fail(const char *what, const char *name)
 void agree(const char *name, Call *c)
 {
     static uint8_t state[MAX_SLICE], log[MAX_SLICE], state_left[MAX_SLICE], log_left[MAX_SLICE];
-    uint64_t told[6];
+    uint64_t told[7];
     size_t size = fields(c) * sizeof told[0];
     memcpy(state, c->state, c->state_len);
     memcpy(log, c->log, c->log_len);

@@ -14,13 +14,14 @@ typedef enum { RUN, WALK, PAGE } Kind;
 
 extern const char *const kind_names[PAGE + 1];
 
-// One call. A page alone writes the log. n is the number of events that a walk takes back, and the budget of a page.
+// One call. A page alone writes the log. n is the number of events that a walk takes back, and the budget of a page; `started` is for a
+// run and a walk.
 typedef struct {
     Kind kind;
     const uint8_t *net;
     uint8_t *state, *log;
     size_t net_len, state_len, log_len, n;
-    uint64_t answer[6];
+    uint64_t started, answer[7];
 } Call;
 
 // How many fields the call tells, and two of them.

@@ -33,19 +33,19 @@ static void make_call(void)
         menu_page_told page;
     } told;
     uint8_t *a = asked.slice[0], *b = asked.slice[1], *c = asked.slice[2];
-    size_t la = asked.size[0], lb = asked.size[1], lc = asked.size[2], m = asked.number[0], n = asked.number[1];
+    size_t la = asked.size[0], lb = asked.size[1], lc = asked.size[2], m = asked.number[0], n = asked.number[1], o = asked.number[2];
 
     FROM_HERE();
     switch (asked.call) {
     case CHECK_NET: menu_check_net(a, la, &told.verdict); break;
     case INITIAL: menu_initial(a, la, b, lb, &told.verdict); break;
     case CHECK_STATE: menu_check_state(a, la, b, lb, &told.verdict); break;
-    case EVENT: menu_event(a, la, b, lb, (uint8_t)m, (uint8_t)n, &told.event); break;
-    case BACK: menu_back(a, la, b, lb, (uint8_t)m, (uint8_t)n, &told.verdict); break;
+    case EVENT: menu_event(a, la, b, lb, (uint8_t)m, (uint8_t)n, o, &told.event); break;
+    case BACK: menu_back(a, la, b, lb, (uint8_t)m, (uint8_t)n, o, &told.verdict); break;
     case DEGREE: menu_degree(a, la, b, lb, m, &told.degree); break;
     case OWED: menu_owed(a, la, b, lb, &told.owed); break;
-    case RUN_LOG: menu_run(a, la, b, lb, c, lc, &told.run); break;
-    case WALK_LOG: menu_walk(a, la, b, lb, c, lc, m, &told.walk); break;
+    case RUN_LOG: menu_run(a, la, b, lb, c, lc, m, &told.run); break;
+    case WALK_LOG: menu_walk(a, la, b, lb, c, lc, m, n, &told.walk); break;
     case STEP: menu_step(a, la, m, &told.step); break;
     case MAKE_PAGE: menu_page(a, la, b, lb, c, lc, m, &told.page); break;
     }
@@ -106,19 +106,21 @@ static void make_log(void)
 }
 
 // A call on copies of the state and of so many bytes of the log, so that each finds the same bytes.
-static void ask_of(int call, size_t room, size_t m, size_t n)
+static void ask_of(int call, size_t room, size_t m, size_t n, size_t o)
 {
     static uint8_t state_copy[sizeof state], log_copy[sizeof events];
     memcpy(state_copy, state, state_length);
     memcpy(log_copy, events, room);
-    measure((Request){call, {net, state_copy, log_copy}, {net_length, state_length, room}, {m, n}});
+    measure((Request){call, {net, state_copy, log_copy}, {net_length, state_length, room}, {m, n, o}});
 }
 
-// An event done and taken back.
+// An event done and taken back, where no start has happened before it in the step and where one has.
 static void both_ways(unsigned first, unsigned second)
 {
-    ask_of(EVENT, 0, first, second);
-    ask_of(BACK, 0, first, second);
+    for (unsigned started = 0; started < 2; started++) {
+        ask_of(EVENT, 0, first, second, started);
+        ask_of(BACK, 0, first, second, started);
+    }
 }
 
 // Every call that is given a state, in this one.
@@ -126,11 +128,11 @@ static void every_call(void)
 {
     unsigned last = transitions - 1;
     size_t all = (log_length - 5) / 2;
-    ask_of(INITIAL, 0, 0, 0);
-    ask_of(CHECK_STATE, 0, 0, 0);
-    ask_of(OWED, 0, 0, 0);
-    ask_of(DEGREE, 0, last, 0);
-    ask_of(DEGREE, 0, transitions, 0);
+    ask_of(INITIAL, 0, 0, 0, 0);
+    ask_of(CHECK_STATE, 0, 0, 0, 0);
+    ask_of(OWED, 0, 0, 0, 0);
+    ask_of(DEGREE, 0, last, 0, 0);
+    ask_of(DEGREE, 0, transitions, 0, 0);
     both_ways(MENU_TICK, 0);
     both_ways(MENU_START(0), 0);
     both_ways(MENU_START(last), 0);
@@ -138,21 +140,37 @@ static void every_call(void)
     both_ways(MENU_END(last), longest);
     both_ways(MENU_END(last), longest + 1);
     both_ways(255, 0);
-    ask_of(RUN_LOG, log_length, 0, 0);
-    ask_of(WALK_LOG, log_length, all, 0);
-    ask_of(WALK_LOG, log_length, all + 1, 0);
-    ask_of(MAKE_PAGE, MENU_LOG_BYTES(200), 200, 0);
-    ask_of(MAKE_PAGE, MENU_LOG_BYTES(0), 200, 0);
-    ask_of(MAKE_PAGE, MENU_LOG_BYTES(200), 0, 0);
+    for (unsigned started = 0; started < 2; started++) {
+        ask_of(RUN_LOG, log_length, started, 0, 0);
+        ask_of(WALK_LOG, log_length, all, started, 0);
+        ask_of(WALK_LOG, log_length, all + 1, started, 0);
+    }
+    ask_of(MAKE_PAGE, MENU_LOG_BYTES(200), 200, 0, 0);
+    ask_of(MAKE_PAGE, MENU_LOG_BYTES(0), 200, 0, 0);
+    ask_of(MAKE_PAGE, MENU_LOG_BYTES(200), 0, 0, 0);
 }
 
-// The same, also where the last place has no token or is full, and where the count of the last transition at age 0 is full, so that an
-// event is refused behind all that it has looked at.
+// Gives every place a token, so that a start that is refused is not for want of one.
+static void give_tokens(void)
+{
+    for (unsigned p = 0; p < places; p++) {
+        state[8 + 2 * p] = 0;
+        state[8 + 2 * p + 1] = 1;
+    }
+}
+
+// The same, also where every place has a token, where the last place has none or is full, and where the count of the last transition at
+// age 0 is full, so that an event is refused behind all that it has looked at.
 static void every_call_nearby(void)
 {
     uint8_t *place = state + 8 + 2 * (places - 1), *count = state + 8 + 2 * places + 2 * (transitions - 1) * (longest + 1);
+    static uint8_t marking[2 * MENU_PLACES_MAX];
     uint8_t kept[2];
     every_call();
+    memcpy(marking, state + 8, 2 * places);
+    give_tokens();
+    every_call();
+    memcpy(state + 8, marking, 2 * places);
     for (unsigned i = 0; i < 3; i++) {
         uint8_t *word = i < 2 ? place : count;
         memcpy(kept, word, 2);
@@ -184,11 +202,12 @@ static void calls_on_net(unsigned p, unsigned t, unsigned lfd)
 
     menu_initial(net, net_length, state, state_length, &begun);
     accepted(begun.number);
-    ask_of(MAKE_PAGE, MENU_LOG_BYTES_MAX, MENU_EVENTS_MAX, 0);
+    ask_of(MAKE_PAGE, MENU_LOG_BYTES_MAX, MENU_EVENTS_MAX, 0, 0);
     every_call_nearby();
     for (unsigned k = 0; k < lfd + 2; k++) {
         uint8_t first = k == 0 ? MENU_START(t - 1) : k <= lfd ? MENU_TICK : MENU_END(t - 1);
-        menu_event(net, net_length, state, state_length, first, k <= lfd ? 0 : (uint8_t)lfd, &done);
+        // The event behind the start is the one before which a start has happened in the step.
+        menu_event(net, net_length, state, state_length, first, k <= lfd ? 0 : (uint8_t)lfd, k == 1, &done);
         accepted(done.number);
         every_call_nearby();
     }

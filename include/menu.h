@@ -2,7 +2,7 @@
  * The calls of the menu engine and of its page runner, for C (C99 and later) and C++.
  *
  * Link with libmenu.a, which is compiled for x86-64 Linux. The functions are proved: whatever bytes it is given, each answers and
- * writes exactly what the scope of the build (document 01, with requests W1 to W4) says, and ends. What a caller needs of it stands
+ * writes exactly what the scope of the build (document 01, with requests W1 to W5) says, and ends. What a caller needs of it stands
  * here; docs/C.md is a page on how to use the functions.
  *
  * STORED FORMS. All numbers are big-endian. Each form begins with a version byte, 1, and the length of the whole form in 4 bytes.
@@ -23,11 +23,25 @@
  *
  * EVENTS. A transition is enabled where every place holds at least its input weight. A start takes the input weights from the
  * marking and begins a firing, of age 0. An end takes away one firing of its transition and age, and the output weights join the
- * marking. A tick makes every firing one tick older. When each is refused is said at numbers 11 to 21 and 24 to 27.
+ * marking. A tick makes every firing one tick older. When each is refused is said at numbers 11 to 21 and 24 to 29.
+ *
+ * A STEP is the events between two ticks, before the first or behind the last. It opens with ends, of firings of any age. Once a start
+ * has happened in it only firings of age 0 may end (28). An end is owed where a firing is at its lfd, and all owed ends of age 1 or
+ * more belong to the opening: no start happens before them (29). From the first start on, starts and ends of firings of age 0 come in
+ * any order that the other numbers permit.
+ *
+ * `started` says whether a start has happened in the step: 0 no, 1 yes; any other value counts as 1. The state does not hold it, so the
+ * caller gives it: to menu_event and menu_back for the state before that event, to menu_run and menu_walk for the state before the
+ * log's first event, also where a walk takes back only the last ones. Within a log it follows from the events in front: a start, the
+ * pair 1 to 64 and 0 whatever T is, sets it; a tick, the pair 0 and 0, clears it; every other pair leaves it. menu_run tells it for the
+ * state that it leaves. In an initial state it is 0. Who does events one by one keeps it in the same way: it is 1 after a start that is
+ * accepted, 0 after a tick that is, and after all else what it was.
  *
  * A PAGE is a log that menu_page writes. It chooses an event, does it, writes it, and goes on: the end of a firing at its lfd, of the
  * lowest transition that has one; where there is none, the start of the lowest transition that is enabled; where there is none
- * either, a tick. Where nothing is enabled and nothing is running it stops, at rest. Enum menu_stop has all its stops.
+ * either, a tick. Where nothing is enabled and nothing is running it stops, at rest. Enum menu_stop has all its stops. A page
+ * begins with no start made. It keeps the order of a step: owed ends come before any start, and behind a start only firings of age 0
+ * come to be owed.
  *
  * WHAT A CALLER LENDS
  *
@@ -55,20 +69,24 @@
  * - Refused by another number: the state that stood when the refused event had its turn, to be done or to be taken back.
  *
  * In a refused answer all fields are 0, except `number`, `index` where it is a transition (4, 5, 6, 9) or the event that a run or a
- * walk stopped at, of a run or a walk that stopped at an event `done` and `ticks`, which tell how far it came, and, with 13, `place`
- * and `shortage` of an event or a run.
+ * walk stopped at, of a run or a walk that stopped at an event `done` and `ticks`, which tell how far it came, of such a run `started`,
+ * which is told for the state just before that event, and, with 13, `place` and `shortage` of an event or a run.
  *
  * 13 refuses a start for want of tokens. `place` is then the lowest place that held fewer tokens than the input weight, and `shortage`
  * how many it lacked, the weight minus the tokens: 1 to 255. The place may be 0. With every other number, 0 too, both fields are 0.
  *
- * A long log may be run in portions, each a log with its own head, run from the state that the one before left, until one is
- * refused. That ends as a run of the whole does; but each portion's answer counts from its own front.
+ * A long log may be run in portions, each a log with its own head, run from the state that the one before left and with the `started`
+ * that it told, until one is refused. That ends as a run of the whole does; but each portion's answer counts from its own front. Such
+ * portions are walked back the last one first, each with the `started` that its run was given.
  *
- * A page's log is accepted by menu_run from the state that menu_page was lent; it tells as many events and ticks, and leaves the very
- * bytes that menu_page left. A page too may be made in portions, each from the state that the one before left and with a log of its
- * own. Where each but the last stopped because its budget was spent, and the last not because its log was full, they are one page with
- * all these budgets: its events are theirs one behind the other, its ticks theirs added up, its stop the last one's, its state the one
- * that is left. That page's log must have room for these events and, with stops 4 and 5, for one more.
+ * A page's log is accepted by menu_run with `started` 0 from the state that menu_page was lent; it tells as many events and ticks, and
+ * leaves the very bytes that menu_page left. With 1 it is too, where that state owes no end of age 1 or more; behind a start that was
+ * accepted, and before the next tick, none is owed. A page too may be made in portions, each from the state that the one before left
+ * and with a log of its own. Where each but the last stopped because its budget was spent, and the last not because its log was full,
+ * they are one page with all these budgets: its events are theirs one behind the other, its ticks theirs added up, its stop the last
+ * one's, its state the one that is left. That page's log must have room for these events and, with stops 4 and 5, for one more. A
+ * portion may begin behind a start of the one before. Its log is run with the `started` that the run of the one before told, and is
+ * accepted with 0 as well.
  *
  * The functions keep nothing from one call to the next, have no data that is written, use no heap, need no second state and do no
  * input or output. A call takes less than 512 bytes of stack, whatever the net: that is measured, not proved, and docs/C.md tells what
@@ -94,8 +112,8 @@ extern "C" {
  * without MENU_INTERFACE is interface 1. A program that names the interface it is written for is not compiled with another:
  *
  *     #include "menu.h"
- *     #if MENU_INTERFACE != 4
- *     #error "this program is written for interface 4 of menu.h"
+ *     #if MENU_INTERFACE != 5
+ *     #error "this program is written for interface 5 of menu.h"
  *     #endif
  *
  * Take header and library from one version. The linker does not see that a library is of another interface, and such a library may
@@ -103,7 +121,7 @@ extern "C" {
  * may only warn.
  */
 
-#define MENU_INTERFACE 4
+#define MENU_INTERFACE 5
 
 /* LIMITS */
 
@@ -134,9 +152,12 @@ extern "C" {
  * state, the log or the room for it, the request, and then event by event. `index` is the transition for 4, 5, 6 and 9, and otherwise
  * 0 but for a run and a walk.
  *
- * Of an event taken back 11 and 12 are told first; then of a tick 21, 18, 20, of a start 24, 25, of an end 15, 26, 27, in this order.
- * 11, 12 and 15 speak of the event alone, the others of the state from which it is taken back. Of an event that 11 and 12 pass, one of
- * those behind them is told exactly where no lawful state leads there by it, and says why.
+ * Of an event 11 and 12 are told first; then of a start 13, 29, 14, of an end 15, 28, 16, 17, of a tick 18, 19, 20, in this order.
+ *
+ * Of an event taken back 11 and 12 are told first; then of a tick 21, 18, 20, of a start 24, 25, 29, of an end 15, 28, 26, 27, in this
+ * order. 11, 12 and 15 speak of the event alone, 28 of the event and `started`, the others of the state from which it is taken back. Of
+ * an event that 11 and 12 pass, one of those behind them is told exactly where no lawful state leads there by it, `started` being what
+ * is given for that state, and says why.
  */
 enum menu_number {
     MENU_ACCEPTED = 0,
@@ -166,6 +187,8 @@ enum menu_number {
     MENU_TICK_START_OWED = 18,     /* tick: a transition is enabled, and must start first; taken back: a transition is enabled */
     MENU_TICK_END_OWED = 19,       /* tick: a firing is at its lfd, and must end first */
     MENU_NOTHING_RUNNING = 20,     /* tick, also taken back: nothing is running */
+    MENU_OLD_AFTER_START = 28,     /* end, also taken back: a start has happened in the step, and the firing is of age 1 or more */
+    MENU_OLD_END_OWED = 29,        /* start, also taken back: an end of age 1 or more is owed, and must come first */
     /* an event taken back; 21 and 24 to 27 are told of nothing else */
     MENU_SOME_FRESH = 21,          /* tick taken back: a firing has age 0, and a tick leaves none */
     MENU_NONE_STARTED = 24,        /* start taken back: no firing of the transition has age 0 */
@@ -236,6 +259,7 @@ typedef struct menu_run_told {
     uint64_t ticks;                /* ticks among those */
     uint64_t place;                /* with 13 the lowest place that lacked tokens for the start refused, and else 0 */
     uint64_t shortage;             /* with 13 how many it lacked, and else 0 */
+    uint64_t started;              /* whether a start has happened in the step, for the state that is left: 1 or 0; with 1 to 10, 0 */
 } menu_run_told;
 
 /* of menu_walk */
@@ -274,13 +298,14 @@ void menu_initial(const uint8_t *net, size_t net_length, uint8_t *state, size_t 
 /* Checks that a state is lawful for a net. Tells 0 to 6, 8, 9. */
 void menu_check_state(const uint8_t *net, size_t net_length, const uint8_t *state, size_t state_length, menu_verdict *answer);
 
-/* Does one event, given by its two bytes. Tells 0 to 6, 8, 9, 11 to 20. */
+/* Does one event, given by its two bytes. `started` is that of the state before it. Tells 0 to 6, 8, 9, 11 to 20, 28, 29. */
 void menu_event(const uint8_t *net, size_t net_length, uint8_t *state, size_t state_length, uint8_t first, uint8_t second,
-                menu_event_told *answer);
+                uint64_t started, menu_event_told *answer);
 
-/* Takes one event back: leaves the only state that leads here by it. Tells 0 to 6, 8, 9, 11, 12, 15, 18, 20, 21, 24 to 27. */
+/* Takes one event back: leaves the only state that leads here by it. `started` is that of the state before the event, which is the one
+ * that is left. Tells 0 to 6, 8, 9, 11, 12, 15, 18, 20, 21, 24 to 29. */
 void menu_back(const uint8_t *net, size_t net_length, uint8_t *state, size_t state_length, uint8_t first, uint8_t second,
-               menu_verdict *answer);
+               uint64_t started, menu_verdict *answer);
 
 /* How many times transition t is enabled. Tells 0 to 6, 8, 9, 12. */
 void menu_degree(const uint8_t *net, size_t net_length, const uint8_t *state, size_t state_length, size_t t,
@@ -289,14 +314,15 @@ void menu_degree(const uint8_t *net, size_t net_length, const uint8_t *state, si
 /* What a state owes, and how it stands. Tells 0 to 6, 8, 9. */
 void menu_owed(const uint8_t *net, size_t net_length, const uint8_t *state, size_t state_length, menu_owed_told *answer);
 
-/* Runs a log from a state, and stops at the first event that is refused. Tells 0 to 6, 8 to 20. */
+/* Runs a log from a state, and stops at the first event that is refused. `started` is that of this state. Tells 0 to 6, 8 to 20, 28,
+ * 29. */
 void menu_run(const uint8_t *net, size_t net_length, uint8_t *state, size_t state_length, const uint8_t *log, size_t log_length,
-              menu_run_told *answer);
+              uint64_t started, menu_run_told *answer);
 
-/* Takes the last n events of a log back, the last one first, and stops at the first that cannot be. Tells 0 to 6, 8 to 12, 15, 18,
- * 20 to 22, 24 to 27. */
+/* Takes the last n events of a log back, the last one first, and stops at the first that cannot be. `started` is that of the state
+ * before the log's first event, whatever n is. Tells 0 to 6, 8 to 12, 15, 18, 20 to 22, 24 to 29. */
 void menu_walk(const uint8_t *net, size_t net_length, uint8_t *state, size_t state_length, const uint8_t *log, size_t log_length,
-               size_t n, menu_told *answer);
+               size_t n, uint64_t started, menu_told *answer);
 
 /* Where step k of a log stands in it: the events after the k-th tick and before the next one. Step 0 comes before the first tick,
  * and a log with n ticks has n + 1 steps. Whether the events are well formed is not asked. Tells 0, 10, 23. */

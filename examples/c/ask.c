@@ -8,8 +8,8 @@
 #include <stdlib.h>
 
 #include "menu.h"
-#if MENU_INTERFACE != 4
-#error "this program is written for interface 4 of menu.h"
+#if MENU_INTERFACE != 5
+#error "this program is written for interface 5 of menu.h"
 #endif
 
 typedef struct slice {
@@ -49,6 +49,16 @@ static uint8_t read_byte(void)
     if (n > 255)
         bad_request();
     return (uint8_t)n;
+}
+
+/* Whether a start has happened in the step. */
+static uint64_t read_fact(void)
+{
+    uint32_t n = read_number();
+
+    if (n > 1)
+        bad_request();
+    return n;
 }
 
 static void read_slice(slice *s)
@@ -105,8 +115,9 @@ static void answer_event(void)
 {
     menu_event_told told;
     uint8_t first = read_byte(), second = read_byte();
+    uint64_t started = read_fact();
 
-    menu_event(net.bytes, net.length, state.bytes, state.length, first, second, &told);
+    menu_event(net.bytes, net.length, state.bytes, state.length, first, second, started, &told);
     tell("event", &told, sizeof told);
     show(&state);
 }
@@ -115,8 +126,9 @@ static void answer_back(void)
 {
     menu_verdict told;
     uint8_t first = read_byte(), second = read_byte();
+    uint64_t started = read_fact();
 
-    menu_back(net.bytes, net.length, state.bytes, state.length, first, second, &told);
+    menu_back(net.bytes, net.length, state.bytes, state.length, first, second, started, &told);
     tell("back", &told, sizeof told);
     show(&state);
 }
@@ -142,7 +154,7 @@ static void answer_run(void)
     menu_run_told told;
 
     read_slice(&events);
-    menu_run(net.bytes, net.length, state.bytes, state.length, events.bytes, events.length, &told);
+    menu_run(net.bytes, net.length, state.bytes, state.length, events.bytes, events.length, read_fact(), &told);
     tell("run", &told, sizeof told);
     show(&state);
 }
@@ -150,9 +162,13 @@ static void answer_run(void)
 static void answer_walk(void)
 {
     menu_told told;
+    uint32_t n;
+    uint64_t started;
 
     read_slice(&events);
-    menu_walk(net.bytes, net.length, state.bytes, state.length, events.bytes, events.length, read_number(), &told);
+    n = read_number();
+    started = read_fact();
+    menu_walk(net.bytes, net.length, state.bytes, state.length, events.bytes, events.length, n, started, &told);
     tell("walk", &told, sizeof told);
     show(&state);
 }

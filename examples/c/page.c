@@ -15,8 +15,8 @@
 #include <string.h>
 
 #include "menu.h"
-#if MENU_INTERFACE != 4
-#error "this program is written for interface 4 of menu.h"
+#if MENU_INTERFACE != 5
+#error "this program is written for interface 5 of menu.h"
 #endif
 
 #include "row.h"
@@ -42,14 +42,16 @@ static size_t read_net(const char *name)
     return length;
 }
 
-/* Whether a run of the portion's log, from the state before it, does the same events and leaves the same bytes. */
-static int agrees(size_t net_length, const menu_page_told *told)
+/* Whether a run of the portion's log, from the state before it, does the same events and leaves the same bytes. *started is whether a
+ * start has happened in the step of that state, and then in that of the state left: a portion may begin in the middle of a step. */
+static int agrees(size_t net_length, const menu_page_told *told, uint64_t *started)
 {
     menu_run_told run;
 
     if (told->number != MENU_ACCEPTED)
         return 0;
-    menu_run(net, net_length, before, sizeof before, portion, MENU_LOG_BYTES(told->events), &run);
+    menu_run(net, net_length, before, sizeof before, portion, MENU_LOG_BYTES(told->events), *started, &run);
+    *started = run.started;
     return run.number == MENU_ACCEPTED && run.done == told->events && run.ticks == told->ticks
         && memcmp(before, state, sizeof state) == 0;
 }
@@ -69,17 +71,18 @@ static void print_portion(uint64_t events)
     }
 }
 
-/* Goes on from the state that stands there, until the page has so many events or stops by itself. */
+/* Builds the page from the initial state that stands there, until it has so many events or stops by itself. */
 static void build(size_t net_length, uint64_t most, menu_page_told *page)
 {
     menu_page_told told;
+    uint64_t started = 0;
 
     do {
         uint64_t left = most - page->events;
 
         memcpy(before, state, sizeof state);
         menu_page(net, net_length, state, sizeof state, portion, sizeof portion, left < PORTION ? left : PORTION, &told);
-        if (!agrees(net_length, &told)) {
+        if (!agrees(net_length, &told, &started)) {
             fprintf(stderr, "page: a run of the portion behind event %llu does not agree\n", (unsigned long long)page->events);
             exit(1);
         }

@@ -10,8 +10,8 @@
 #include <stdlib.h>
 
 #include "menu.h"
-#if MENU_INTERFACE != 4
-#error "this program is written for interface 4 of menu.h"
+#if MENU_INTERFACE != 5
+#error "this program is written for interface 5 of menu.h"
 #endif
 
 #include "row.h"
@@ -57,7 +57,7 @@ static void print_state(void)
 static void replay(const uint8_t *net, size_t net_length, const uint8_t *log, size_t log_length)
 {
     menu_verdict begun;
-    menu_run_told told = {0, 0, 0, 0, 0, 0};
+    menu_run_told told = {0, 0, 0, 0, 0, 0, 0};
     menu_owed_told owed;
 
     menu_initial(net, net_length, state, sizeof state, &begun);
@@ -67,7 +67,8 @@ static void replay(const uint8_t *net, size_t net_length, const uint8_t *log, si
         print_result(&told, 0);
         return;
     }
-    menu_run(net, net_length, state, sizeof state, log, log_length, &told);
+    /* in an initial state no start has happened */
+    menu_run(net, net_length, state, sizeof state, log, log_length, 0, &told);
     if (told.number == MENU_LOG_FRAME) {
         print_result(&told, 0);
         return;

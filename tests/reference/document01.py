@@ -1,6 +1,7 @@
 #!/usr/bin/env python3
 """The cases that document 01 itself gives, on the children's row net, and cases of
-requests W1, W2 and W4, whose answers are worked out by hand.
+requests W1, W2 and W4, whose answers are worked out by hand. All begin with no start
+made. Those of request W5 are in opening_cases.py; they are written and checked with these.
 
 usage: document01.py          writes them as requests, in the document's order,
                               those without a K first, those of the requests last,
@@ -13,179 +14,98 @@ import sys
 import ask
 import menupage
 import menurun
+import opening_cases
 import reference
 import wire
-
-NET = bytes.fromhex(
-    "01 00 00 00 1D 03 02 00 01 00 00 00 00 01 03 01 00 00 00 01 00 00 00 00 01 00 00 00 01"
+from casenets import (
+    BEFORE_LAST, END_63, FINAL, FOUR, INITIAL, K1, LOG, LOOP, LOOPED, NET, NOT_STARTED, SLOW, START_0, START_1, START_63, TALL, TICK, WIDE,
+    at, end_0, end_1, four, four_net, log, loop, slow, state, tall, wide,
 )
-INITIAL = bytes.fromhex("01 00 00 00 1E 03 02 04 00 01") + bytes(20)
-LOG = bytes.fromhex("01 00 00 00 0F 01 00 00 00 41 01 02 00 42 00")
-
-TICK, START_0, START_1 = (0, 0), (1, 0), (2, 0)
-
-
-def end_0(age):
-    return 65, age
-
-
-def end_1(age):
-    return 66, age
-
-
-K1 = [START_0, TICK, end_0(1), START_1, end_1(0)]
-
-
-def log(*pairs):
-    return bytes([1]) + (5 + 2 * len(pairs)).to_bytes(4, "big") + bytes(b for pair in pairs for b in pair)
-
-
-def words(values):
-    return b"".join(value.to_bytes(2, "big") for value in values)
-
-
-def state(marking, counts=None):
-    """The net's state with that marking and those counts, by (transition, age)."""
-    values = list(marking) + [0] * 8
-    for (transition, age), count in (counts or {}).items():
-        values[3 + 4 * transition + age] = count
-    return INITIAL[:8] + words(values)
-
-
-FINAL = state([0, 0, 1])
-BEFORE_LAST = state([0, 0, 0], {(1, 0): 1})
 
 # title, call, arguments, fields of the answer, buffer afterwards (None: not shown; of a page state and log)
 REMAINING = [
-    ("start 0 taken back, place 0 at 65,535", "back", [NET, state([65535, 0, 0], {(0, 0): 1}), *START_0],
+    ("start 0 taken back, place 0 at 65,535", "back", [NET, state([65535, 0, 0], {(0, 0): 1}), *START_0, NOT_STARTED],
      (25, 0), state([65535, 0, 0], {(0, 0): 1})),
     ("step 0 of the log", "step", [LOG, 0], (0, 0, 5, 2), None),
     ("step 1 of the log", "step", [LOG, 1], (0, 0, 9, 6), None),
     ("step 2 of the log", "step", [LOG, 2], (23, 0, 0, 0), None),
     ("length 0 as a net", "check_net", [b""], (1, 0), None),
     ("length 6 as a net", "check_net", [bytes.fromhex("010000000603")], (1, 0), None),
-    ("a log of 5 bytes", "run", [NET, INITIAL, log()], (0, 0, 0, 0, 0, 0), INITIAL),
+    ("a log of 5 bytes", "run", [NET, INITIAL, log(), NOT_STARTED], (0, 0, 0, 0, 0, 0, 0), INITIAL),
     ("the net", "check_net", [NET], (0, 0), None),
     ("the initial state", "initial", [NET, bytes(30)], (0, 0), INITIAL),
 ]
 
 PROVED = [
-    ("K1", "run", [NET, INITIAL, LOG], (0, 5, 5, 1, 0, 0), FINAL),
+    ("K1", "run", [NET, INITIAL, LOG, NOT_STARTED], (0, 5, 5, 1, 0, 0, 1), FINAL),
     ("K1, what is owed", "owed", [NET, FINAL], (0, 0, 0, 0, 0, 0, 64, 64, 4), None),
-    ("K2", "run", [NET, INITIAL, log(TICK)], (18, 0, 0, 0, 0, 0), INITIAL),
-    ("K3", "run", [NET, INITIAL, log(START_0, TICK, TICK, TICK)],
-     (0, 4, 4, 3, 0, 0), state([0, 0, 0], {(0, 3): 1})),
-    ("K4", "run", [NET, INITIAL, log(START_0, TICK, TICK, TICK, TICK)],
-     (19, 4, 4, 3, 0, 0), state([0, 0, 0], {(0, 3): 1})),
-    ("K5", "run", [NET, INITIAL, log(START_0, end_0(0))],
-     (15, 1, 1, 0, 0, 0), state([0, 0, 0], {(0, 0): 1})),
-    ("K6", "run", [NET, INITIAL, log(START_0, TICK, end_0(2))],
-     (16, 2, 2, 1, 0, 0), state([0, 0, 0], {(0, 1): 1})),
-    ("K7", "run", [NET, INITIAL, log(START_0, TICK, end_0(1), TICK)],
-     (18, 3, 3, 1, 0, 0), state([0, 1, 0])),
-    ("K8", "run", [NET, INITIAL, log(*K1, TICK)], (20, 5, 5, 1, 0, 0), FINAL),
-    ("K9", "back", [NET, FINAL, *end_1(0)], (0, 0), BEFORE_LAST),
-    ("K9, as a walk", "walk", [NET, FINAL, LOG, 1], (0, 4, 1, 0), BEFORE_LAST),
-    ("K10", "back", [NET, INITIAL, *TICK], (18, 0), INITIAL),
-    ("K11", "event", [NET, state([0, 65534, 0], {(0, 1): 1}), *end_0(1)],
+    ("K2", "run", [NET, INITIAL, log(TICK), NOT_STARTED], (18, 0, 0, 0, 0, 0, 0), INITIAL),
+    ("K3", "run", [NET, INITIAL, log(START_0, TICK, TICK, TICK), NOT_STARTED],
+     (0, 4, 4, 3, 0, 0, 0), state([0, 0, 0], {(0, 3): 1})),
+    ("K4", "run", [NET, INITIAL, log(START_0, TICK, TICK, TICK, TICK), NOT_STARTED],
+     (19, 4, 4, 3, 0, 0, 0), state([0, 0, 0], {(0, 3): 1})),
+    ("K5", "run", [NET, INITIAL, log(START_0, end_0(0)), NOT_STARTED],
+     (15, 1, 1, 0, 0, 0, 1), state([0, 0, 0], {(0, 0): 1})),
+    ("K6", "run", [NET, INITIAL, log(START_0, TICK, end_0(2)), NOT_STARTED],
+     (16, 2, 2, 1, 0, 0, 0), state([0, 0, 0], {(0, 1): 1})),
+    ("K7", "run", [NET, INITIAL, log(START_0, TICK, end_0(1), TICK), NOT_STARTED],
+     (18, 3, 3, 1, 0, 0, 0), state([0, 1, 0])),
+    ("K8", "run", [NET, INITIAL, log(*K1, TICK), NOT_STARTED], (20, 5, 5, 1, 0, 0, 1), FINAL),
+    ("K9", "back", [NET, FINAL, *end_1(0), NOT_STARTED], (0, 0), BEFORE_LAST),
+    ("K9, as a walk", "walk", [NET, FINAL, LOG, 1, NOT_STARTED], (0, 4, 1, 0), BEFORE_LAST),
+    ("K10", "back", [NET, INITIAL, *TICK, NOT_STARTED], (18, 0), INITIAL),
+    ("K11", "event", [NET, state([0, 65534, 0], {(0, 1): 1}), *end_0(1), NOT_STARTED],
      (0, 0, 0, 0), state([0, 65535, 0])),
-    ("K12", "event", [NET, state([0, 65535, 0], {(0, 1): 1}), *end_0(1)],
+    ("K12", "event", [NET, state([0, 65535, 0], {(0, 1): 1}), *end_0(1), NOT_STARTED],
      (17, 0, 0, 0), state([0, 65535, 0], {(0, 1): 1})),
 ]
 
-
-def four_net(*marking):
-    """Four places; transition 0, of no duration, takes 2, 0, 7 and 255 tokens and gives one to place 1."""
-    return bytes.fromhex("01 00 00 00 19 04 01") + words(marking) + bytes.fromhex("00 00 02 00 07 FF 00 01 00 00")
-
-
-def four(*marking, count=0):
-    return bytes.fromhex("01 00 00 00 12 04 01 01") + words([*marking, count])
-
-
-def wide(tokens, count=0):
-    return bytes.fromhex("01 00 00 00 8A 40 01 01") + words([*tokens, count])
-
-
-FOUR = four_net(0, 0, 0, 0)
-# 64 places; transition 0 takes a token from each
-WIDE = bytes.fromhex("01 00 00 01 09 40 01") + bytes(128) + b"\0\0" + b"\1" * 64 + b"\1" * 64
 TOO_EARLY = log(START_0, TICK, START_1)
 THRICE = log(START_0, START_0, START_0)
 THRICE_AND_MORE = log(START_0, START_0, START_0, end_0(0), START_0)
 
 # of document 01's net start 0 takes from place 0, and start 1 from place 1
 SHORT = [
-    ("start 1 in the initial state", "event", [NET, INITIAL, *START_1], (13, 0, 1, 1), INITIAL),
-    ("the row is filled before the load has ended", "run", [NET, INITIAL, TOO_EARLY],
-     (13, 2, 2, 1, 1, 1), state([0, 0, 0], {(0, 1): 1})),
-    ("start 0 twice", "run", [NET, INITIAL, log(START_0, START_0)],
-     (13, 1, 1, 0, 0, 1), state([0, 0, 0], {(0, 0): 1})),
-    ("no place is short", "event", [FOUR, four(2, 0, 7, 255), *START_0], (0, 0, 0, 0), four(0, 0, 0, 0, count=1)),
-    ("a token is lacking", "event", [FOUR, four(1, 0, 7, 255), *START_0], (13, 0, 0, 1), four(1, 0, 7, 255)),
-    ("the lowest of three, neither the least nor the largest shortage", "event", [FOUR, four(0, 9, 6, 250), *START_0],
+    ("start 1 in the initial state", "event", [NET, INITIAL, *START_1, NOT_STARTED], (13, 0, 1, 1), INITIAL),
+    ("the row is filled before the load has ended", "run", [NET, INITIAL, TOO_EARLY, NOT_STARTED],
+     (13, 2, 2, 1, 1, 1, 0), state([0, 0, 0], {(0, 1): 1})),
+    ("start 0 twice", "run", [NET, INITIAL, log(START_0, START_0), NOT_STARTED],
+     (13, 1, 1, 0, 0, 1, 1), state([0, 0, 0], {(0, 0): 1})),
+    ("no place is short", "event", [FOUR, four(2, 0, 7, 255), *START_0, NOT_STARTED], (0, 0, 0, 0), four(0, 0, 0, 0, count=1)),
+    ("a token is lacking", "event", [FOUR, four(1, 0, 7, 255), *START_0, NOT_STARTED], (13, 0, 0, 1), four(1, 0, 7, 255)),
+    ("the lowest of three, neither the least nor the largest shortage", "event", [FOUR, four(0, 9, 6, 250), *START_0, NOT_STARTED],
      (13, 0, 0, 2), four(0, 9, 6, 250)),
-    ("the lowest of two, a place below has its weight", "event", [FOUR, four(2, 0, 0, 0), *START_0],
+    ("the lowest of two, a place below has its weight", "event", [FOUR, four(2, 0, 0, 0), *START_0, NOT_STARTED],
      (13, 0, 2, 7), four(2, 0, 0, 0)),
-    ("no token for the greatest weight", "event", [FOUR, four(2, 0, 7, 0), *START_0], (13, 0, 3, 255), four(2, 0, 7, 0)),
-    ("one too few for the greatest weight", "event", [FOUR, four(65535, 0, 65535, 254), *START_0],
+    ("no token for the greatest weight", "event", [FOUR, four(2, 0, 7, 0), *START_0, NOT_STARTED], (13, 0, 3, 255), four(2, 0, 7, 0)),
+    ("one too few for the greatest weight", "event", [FOUR, four(65535, 0, 65535, 254), *START_0, NOT_STARTED],
      (13, 0, 3, 1), four(65535, 0, 65535, 254)),
-    ("13 before 14", "event", [FOUR, four(2, 0, 6, 255, count=65535), *START_0],
+    ("13 before 14", "event", [FOUR, four(2, 0, 6, 255, count=65535), *START_0, NOT_STARTED],
      (13, 0, 2, 1), four(2, 0, 6, 255, count=65535)),
-    ("14 tells no place", "event", [FOUR, four(2, 0, 7, 255, count=65535), *START_0],
+    ("14 tells no place", "event", [FOUR, four(2, 0, 7, 255, count=65535), *START_0, NOT_STARTED],
      (14, 0, 0, 0), four(2, 0, 7, 255, count=65535)),
-    ("the third start, place 0", "run", [FOUR, four(5, 0, 20, 600), THRICE],
-     (13, 2, 2, 0, 0, 1), four(1, 0, 6, 90, count=2)),
-    ("the third start, place 2", "run", [FOUR, four(6, 0, 20, 600), THRICE],
-     (13, 2, 2, 0, 2, 1), four(2, 0, 6, 90, count=2)),
-    ("the third start, place 3, and events behind it", "run", [FOUR, four(9, 0, 21, 600), THRICE_AND_MORE],
-     (13, 2, 2, 0, 3, 165), four(5, 0, 7, 90, count=2)),
-    ("a start taken back that was never done", "back", [FOUR, four(1, 0, 6, 90), *START_0], (24, 0), four(1, 0, 6, 90)),
-    ("the last of 64 places", "event", [WIDE, wide([1] * 63 + [0]), *START_0], (13, 0, 63, 1), wide([1] * 63 + [0])),
-    ("the ninth of 64 places", "event", [WIDE, wide([1] * 8 + [0] * 56), *START_0],
+    ("the third start, place 0", "run", [FOUR, four(5, 0, 20, 600), THRICE, NOT_STARTED],
+     (13, 2, 2, 0, 0, 1, 1), four(1, 0, 6, 90, count=2)),
+    ("the third start, place 2", "run", [FOUR, four(6, 0, 20, 600), THRICE, NOT_STARTED],
+     (13, 2, 2, 0, 2, 1, 1), four(2, 0, 6, 90, count=2)),
+    ("the third start, place 3, and events behind it", "run", [FOUR, four(9, 0, 21, 600), THRICE_AND_MORE, NOT_STARTED],
+     (13, 2, 2, 0, 3, 165, 1), four(5, 0, 7, 90, count=2)),
+    ("a start taken back that was never done", "back", [FOUR, four(1, 0, 6, 90), *START_0, NOT_STARTED], (24, 0), four(1, 0, 6, 90)),
+    ("the last of 64 places", "event", [WIDE, wide([1] * 63 + [0]), *START_0, NOT_STARTED], (13, 0, 63, 1), wide([1] * 63 + [0])),
+    ("the ninth of 64 places", "event", [WIDE, wide([1] * 8 + [0] * 56), *START_0, NOT_STARTED],
      (13, 0, 8, 1), wide([1] * 8 + [0] * 56)),
-    ("the first of 64 places", "run", [WIDE, wide([0] * 64), log(START_0)], (13, 0, 0, 0, 0, 1), wide([0] * 64)),
+    ("the first of 64 places", "run", [WIDE, wide([0] * 64), log(START_0), NOT_STARTED], (13, 0, 0, 0, 0, 1, 0), wide([0] * 64)),
 ]
 
 
 def back(title, net, before, pair, number, after=None):
     """An event taken back; a refused one leaves the state as it was."""
-    return title, "back", [net, before, *pair], (number, 0), before if after is None else after
+    return title, "back", [net, before, *pair, NOT_STARTED], (number, 0), before if after is None else after
 
 
 def stopped(title, before, pairs, told, after):
     """A walk over all these events; told are number, index, events done and ticks."""
-    return title, "walk", [NET, before, log(*pairs), len(pairs)], told, after
-
-
-# a place; 64 transitions of one tick, of which the last takes and gives one token and the others 255
-TALL = bytes.fromhex("01 00 00 01 09 01 40 00 01") + bytes.fromhex("00 01 FF FF") * 63 + bytes.fromhex("01 01 01 01")
-START_63, END_63 = (64, 0), (128, 1)
-
-
-def tall(tokens, counts=None):
-    """The net's state with those tokens and those counts, by (transition, age)."""
-    values = [tokens] + [0] * 128
-    for (transition, age), count in (counts or {}).items():
-        values[1 + 2 * transition + age] = count
-    return bytes.fromhex("01 00 00 01 0A 01 40 02") + words(values)
-
-
-# a place, and a transition of 63 ticks that takes its token and gives it back
-SLOW = bytes.fromhex("01 00 00 00 0D 01 01 00 01 3F 3F 01 01")
-
-
-def slow(tokens, counts=None):
-    """The net's state with those tokens and those counts, by age."""
-    values = [tokens] + [0] * 64
-    for age, count in (counts or {}).items():
-        values[1 + age] = count
-    return bytes.fromhex("01 00 00 00 8A 01 01 40") + words(values)
-
-
-def at(place, tokens, elsewhere):
-    """The tokens of 64 places."""
-    return [tokens if p == place else elsewhere for p in range(64)]
+    return title, "walk", [NET, before, log(*pairs), len(pairs), NOT_STARTED], told, after
 
 
 CROWDED = {(0, 0): 65535}
@@ -290,15 +210,6 @@ def refused_page(title, number, index, before, size, budget, net=NET):
     return title, "page", [net, before, room(size), budget], (number, index, 0, 0, 0), (before, room(size))
 
 
-# a place and a transition of no duration that takes its token and gives it back
-LOOP = bytes.fromhex("01 00 00 00 0D 01 01 00 01 00 00 01 01")
-LOOPED = [START_0, end_0(0)]
-
-
-def loop(tokens, count=0):
-    return bytes.fromhex("01 00 00 00 0C 01 01 01") + words([tokens, count])
-
-
 # in the row net start 0 takes from place 0 and end 0 gives to place 1, from which start 1 takes; end 1 gives to place 2
 WRITTEN = [
     page("the row", INITIAL, 40, 100, (1, 7, 3), FINAL, *ROW_PAGE),
@@ -399,7 +310,7 @@ UNWRITTEN = [
     refused_page("a buffer of 4 bytes, at rest, budget 0", 10, 0, FINAL, 4, 0),
 ]
 
-CASES = REMAINING + PROVED + SHORT + BARRED + WRITTEN + UNWRITTEN
+CASES = REMAINING + PROVED + SHORT + BARRED + WRITTEN + UNWRITTEN + opening_cases.CASES
 
 # these are checked and compared, but not stored
 LONGEST = [
@@ -407,7 +318,12 @@ LONGEST = [
     page("a byte too few for 24,000 events", loop(1), 48004, 24000, (3, 23999, 0), loop(0, 1), *(LOOPED * 12000)[:-1], net=LOOP),
     page("a budget of 24,000", loop(1), 48005, 24000, (2, 24000, 0), loop(1), *LOOPED * 12000, net=LOOP),
     page("24,000 events in the longest buffer", loop(1), 65536, 65536, (3, 24000, 0), loop(1), *LOOPED * 12000, net=LOOP),
+    *opening_cases.LONGEST,
 ]
+
+# the row net with a second token in place 0
+TWO_ROWS = NET[:8] + b"\2" + NET[9:]
+TWO_LOADED = [START_0, START_0, TICK]
 
 # title, input of menurun, its whole output
 PRINTED = [
@@ -419,6 +335,12 @@ PRINTED = [
     ("the row is filled before the load has ended", NET + TOO_EARLY, "result 13 2 2 1 3 1 1\nmarks 0 0 0\nrun 0 1 1\n"),
     ("a start at once", four_net(2, 0, 0, 0) + THRICE, "result 13 0 0 0 4 2 7\nmarks 2 0 0 0\n"),
     ("the third start", four_net(9, 0, 21, 600) + THRICE_AND_MORE, "result 13 2 2 0 2 3 165\nmarks 5 0 7 90\nrun 0 0 2\n"),
+    ("two rows: the second load ends after the first is filled", TWO_ROWS + log(*TWO_LOADED, end_0(1), START_1, end_0(1)),
+     "result 28 5 5 1 2 0 0\nmarks 0 0 0\nrun 0 1 1\nrun 1 0 1\n"),
+    ("two rows: both loads end first", TWO_ROWS + log(*TWO_LOADED, end_0(1), end_0(1), START_1),
+     "result 0 6 6 1 1 0 0\nmarks 0 1 0\nrun 1 0 1\n"),
+    ("two rows: the first is filled while the second load owes its end", TWO_ROWS + log(*TWO_LOADED, TICK, TICK, end_0(3), START_1),
+     "result 29 6 6 3 1 0 0\nmarks 0 1 0\nrun 0 3 1\n"),
 ]
 
 ROW_LINES = b"stop 1\nresult 0 7 7 3 4 0 0\nmarks 0 0 1\n"
@@ -488,7 +410,7 @@ def check():
     wrong = []
     for title, name, arguments, fields, after in CASES + LONGEST:
         if ask.answer(name, arguments) != line_of(name, fields, after):
-            wrong.append(title)
+            wrong.append(f"{name}: {title}")
     for title, k, part in (("part of step 0", 0, "0100"), ("part of step 1", 1, "410102004200")):
         _, _, start, length = reference.step(LOG, k)
         if LOG[start : start + length] != bytes.fromhex(part):
@@ -510,7 +432,7 @@ def check():
 if __name__ == "__main__":
     if sys.argv[1:] == ["--check"]:
         count, wrong = check()
-        print(f"{count - len(wrong)} of {count} as document 01, W1, W2 and W4 say")
+        print(f"{count - len(wrong)} of {count} as document 01, W1, W2, W4 and W5 say")
         for title in wrong:
             print(f"differs: {title}")
         sys.exit(1 if wrong else 0)

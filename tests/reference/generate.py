@@ -1,7 +1,7 @@
 #!/usr/bin/env python3
 """A seeded stream of requests for `menuask`: lawful, nearly lawful, damaged, at every limit.
 
-usage: generate.py SEED COUNT [--bad-end]    writes COUNT requests, and with --bad-end a bad one last
+usage: generate.py SEED COUNT [--bad-end]    writes COUNT requests, and with --bad-end last one whose fact is a bad number
        generate.py --menurun SEED N DIR      writes N inputs of `menurun` as files of that folder
 """
 
@@ -12,6 +12,7 @@ import random
 import sys
 
 import material
+import opening_material
 import reference
 import wire
 from reference import Net, Transition
@@ -61,73 +62,145 @@ def event_requests(rng):
     """Any event in any state."""
     net = material.any_net(rng)
     state = material.any_state(rng, net)
-    yield "event", [stored(net), buffer_of(rng, net, state), *material.any_pair(rng, net, state)]
+    started = material.any_fact(rng)
+    yield "event", [stored(net), buffer_of(rng, net, state), *material.any_pair(rng, net, state, started), started]
 
 
 def limit_requests(rng):
-    """Events, forward and back, where a count or a marking meets its limit."""
+    """Events, forward and back, where a count or a marking meets its limit, as a rule with no start made."""
     net = material.any_net(rng)
+    started = int(rng.random() < 0.15)
     name, make = rng.choice(
         [
-            ("event", material.start_at_limit),
-            ("event", material.end_at_limit),
+            *[("event", material.start_at_limit)] * 4,
+            *[("event", material.end_at_limit)] * 4,
             ("back", material.start_back_at_limit),
-            ("back", material.end_back_at_limit),
+            *[("back", material.end_back_at_limit)] * 2,
         ]
     )
     state, pair = make(rng, net)
-    if rng.random() < 0.7:
-        yield name, [stored(net), buffer_of(rng, net, state), *pair]
+    data, buffer = stored(net), buffer_of(rng, net, state)
+    pairs = [pair] * rng.randint(1, 3)
+    if rng.random() < 0.55:
+        yield name, [data, buffer, *pair, started]
     elif name == "event":
-        yield "run", [stored(net), buffer_of(rng, net, state), material.encode_log([pair] * rng.randint(1, 3))]
+        yield "run", [data, buffer, material.encode_log(pairs), started]
     else:
-        pairs = [pair] * rng.randint(1, 3)
-        yield "walk", [stored(net), buffer_of(rng, net, state), material.encode_log(pairs), len(pairs)]
+        yield "walk", [data, buffer, material.encode_log(pairs), len(pairs), started]
 
 
 def short_requests(rng):
     """A start that lacks tokens, alone or behind accepted starts."""
     if rng.random() < 0.5:
         net, state, t = material.short_start(rng)
-        yield "event", [stored(net), buffer_of(rng, net, state), 1 + t, 0]
+        yield "event", [stored(net), buffer_of(rng, net, state), 1 + t, 0, material.any_fact(rng)]
     else:
         net, begin, pairs = material.short_log(rng)
-        yield "run", [stored(net), buffer_of(rng, net, begin), material.encode_log(pairs)]
+        yield "run", [stored(net), buffer_of(rng, net, begin), material.encode_log(pairs), material.any_fact(rng)]
 
 
 def tick_requests(rng):
     """Ticks done in a quiet state, and taken back from a state that a tick may have left."""
     net = material.any_net(rng)
     if rng.random() < 0.5:
-        make = rng.choice([material.quiet_state, material.quiet_state, material.due_state])
-        yield "event", [stored(net), buffer_of(rng, net, make(rng, net)), 0, 0]
+        make = rng.choice([material.quiet_state] * 3 + [material.due_state] * 2)
+        yield "event", [stored(net), buffer_of(rng, net, make(rng, net)), 0, 0, material.any_fact(rng)]
     else:
-        yield "back", [stored(net), buffer_of(rng, net, material.just_ticked_state(rng, net)), 0, 0]
+        yield "back", [stored(net), buffer_of(rng, net, material.just_ticked_state(rng, net)), 0, 0, material.any_fact(rng)]
 
 
 def back_requests(rng):
     """The last event of a run taken back, or another one."""
-    net = material.any_net(rng)
-    pairs, state = material.accepted_walk(rng, net, material.any_state(rng, net), rng.randint(1, 15))
+    net, given = material.any_net(rng), material.any_fact(rng)
+    pairs, state = material.accepted_walk(rng, net, material.any_state(rng, net), rng.randint(1, 15), given)
     if pairs and rng.random() < 0.6:
-        pair = pairs[-1]
+        pair, started = pairs[-1], reference.facts(pairs[:-1], given)[-1]
     else:
-        pair = rng.choice(material.candidate_pairs(rng, net))
-    yield "back", [stored(net), buffer_of(rng, net, state), *pair]
+        pair, started = rng.choice(material.candidate_pairs(rng, net)), material.any_fact(rng)
+    yield "back", [stored(net), buffer_of(rng, net, state), *pair, started]
+
+
+# what makes a state from which the step back may be refused by the number, W5's with W4's
+BARRED = {**material.BARRED, 28: opening_material.an_end_back, 29: opening_material.a_start_back}
+
+
+def walk_over(rng, net, state, pair, started, reaches):
+    """A walk back from events behind the one that leads to this state. In front of it are others, behind which
+    a start has happened or not as is said. It may end behind that event, at it, or in front."""
+    given, before = opening_material.led_to(rng, net, started)
+    behind, end = material.accepted_walk(rng, net, state, rng.choice([0, 1, 2, 5, 20]), reference.fact_after(started, pair))
+    pairs = before + [pair] + behind
+    n = rng.randint(len(behind) + reaches, len(pairs))
+    return "walk", [stored(net), buffer_of(rng, net, end), material.encode_log(pairs), n, given]
 
 
 def barred_requests(rng):
-    """An event that cannot be taken back, each of W4's numbers as likely as another: alone, or in a
-    walk that stops there behind accepted events."""
-    net, state, pair = material.barred_step(rng, rng.choice(sorted(material.BARRED)))
-    if rng.random() < 0.6:
-        yield "back", [stored(net), buffer_of(rng, net, state), *pair]
+    """An event that cannot be taken back, each number of W4 and W5 as likely as another but for 27, which is
+    seldom met elsewhere: alone, or in a walk that stops there behind accepted events."""
+    number = rng.choice([*sorted(BARRED), 27])
+    net, state, pair, started = material.barred_step(rng, number, BARRED[number])
+    if rng.random() < 0.5:
+        yield "back", [stored(net), buffer_of(rng, net, state), *pair, started]
     else:
-        before = [rng.choice(material.candidate_pairs(rng, net)) for _ in range(rng.choice([0, 1, 4]))]
-        behind, end = material.accepted_walk(rng, net, state, rng.choice([1, 2, 5, 20]))
-        pairs = before + [pair] + behind
-        n = rng.randint(len(behind) + 1, len(pairs))
-        yield "walk", [stored(net), buffer_of(rng, net, end), material.encode_log(pairs), n]
+        yield walk_over(rng, net, state, pair, started, reaches=1)
+
+
+# ---- the order within a step (W5)
+
+
+def opening_requests(rng):
+    """A single end or start, forward or back: of age 1 or more, or while such an end is owed, or nearly."""
+    net = opening_material.lasting_net(rng)
+    name, make = rng.choice(
+        [
+            ("event", opening_material.an_end),
+            ("event", opening_material.a_start),
+            ("back", opening_material.an_end_back),
+            ("back", opening_material.a_start_back),
+        ]
+    )
+    state, pair = make(rng, net)
+    yield name, [stored(net), buffer_of(rng, net, state), *pair, rng.randrange(2)]
+
+
+def front_requests(rng):
+    """A walk whose fact comes from the events in front of it, or from the caller."""
+    net = opening_material.lasting_net(rng)
+    state, pair = rng.choice([opening_material.an_end_back, opening_material.a_start_back])(rng, net)
+    yield walk_over(rng, net, state, pair, rng.randrange(2), reaches=0)
+
+
+def free_order_requests(rng):
+    """A run, or a walk, along a log that does not keep to the order."""
+    net, begin, started, pairs, end = opening_material.free_journey(rng)
+    if rng.random() < 0.6:
+        yield "run", [stored(net), buffer_of(rng, net, begin), material.encode_log(pairs), started]
+    else:
+        yield "walk", [stored(net), buffer_of(rng, net, end), material.encode_log(pairs), len(pairs), started]
+
+
+def late_requests(rng):
+    """A run with an end of age 1 or more behind a start."""
+    net, begin, pairs = opening_material.late_log(rng)
+    yield "run", [stored(net), buffer_of(rng, net, begin), material.encode_log(pairs), material.any_fact(rng)]
+
+
+def opened_run_requests(rng):
+    """A run whose first event is an end or a start of W5's limits."""
+    net = opening_material.lasting_net(rng)
+    state, pair = rng.choice([opening_material.an_end, opening_material.a_start])(rng, net)
+    pairs = [pair] + rng.choice([[], [pair], [(0, 0)], opening_material.forefront(rng, net)])
+    yield "run", [stored(net), buffer_of(rng, net, state), material.encode_log(pairs), rng.randrange(2)]
+
+
+def portion_requests(rng):
+    """A run in two portions: the second is given the fact that the first tells."""
+    net, begin, started, pairs, _ = rng.choice([material.journey, opening_material.free_journey])(rng)
+    data, buffer, cut = stored(net), bytearray(buffer_of(rng, net, begin)), rng.randint(0, len(pairs))
+    first = [data, bytes(buffer), material.encode_log(pairs[:cut]), started]
+    told = reference.run(data, buffer, *first[2:])
+    yield "run", first
+    yield "run", [data, bytes(buffer), material.encode_log(pairs[cut:]), told[-1]]
 
 
 def degree_requests(rng):
@@ -160,53 +233,55 @@ def tall_requests(rng):
     quiet = material.quiet_state(rng, net).marking
     marking = quiet if pair == (0, 0) else rng.choice([row.inputs, quiet])
     buffer = buffer_of(rng, net, reference.State(marking, counts))
-    yield name, [stored(net), buffer] if name == "owed" else [stored(net), buffer, *pair]
+    yield name, [stored(net), buffer] if name == "owed" else [stored(net), buffer, *pair, material.any_fact(rng)]
 
 
 def run_requests(rng):
     """A run that gets far: all of it accepted, or one event refused and more events behind it."""
-    net, begin, pairs, _ = material.journey(rng)
+    net, begin, started, pairs, _ = material.journey(rng)
     if rng.random() < 0.55:
-        pairs = material.stumbling_walk(rng, net, begin, pairs)
-    yield "run", [stored(net), buffer_of(rng, net, begin), material.encode_log(pairs)]
+        pairs = material.stumbling_walk(rng, net, begin, pairs, started)
+    yield "run", [stored(net), buffer_of(rng, net, begin), material.encode_log(pairs), started]
 
 
 def scattered_requests(rng):
     """A run along permitted events of which a few are others, so that it may go on elsewhere."""
-    net, begin, pairs, _ = material.journey(rng)
+    net, begin, started, pairs, _ = material.journey(rng)
     pairs = [pair if rng.random() < 0.97 else rng.choice(material.candidate_pairs(rng, net)) for pair in pairs]
-    yield "run", [stored(net), buffer_of(rng, net, begin), material.encode_log(pairs)]
+    yield "run", [stored(net), buffer_of(rng, net, begin), material.encode_log(pairs), started]
 
 
 def rest_requests(rng):
     """A run to where nothing is permitted any more, and a tick behind it."""
     net = material.mixed_net(rng)
-    begin = reference.initial_state(net)
-    pairs, _ = material.accepted_walk(rng, net, begin, 60)
-    yield "run", [stored(net), buffer_of(rng, net, begin), material.encode_log(pairs + [(0, 0)])]
+    begin, started = reference.initial_state(net), material.any_fact(rng)
+    pairs, _ = material.accepted_walk(rng, net, begin, 60, started)
+    yield "run", [stored(net), buffer_of(rng, net, begin), material.encode_log(pairs + [(0, 0)]), started]
 
 
 def walk_requests(rng):
     """A walk back from the end of an accepted run."""
-    net, _, pairs, end = material.journey(rng)
+    net, _, started, pairs, end = material.journey(rng)
     count = len(pairs)
     n = rng.choice([count, count, count, rng.randint(0, count), rng.randint(0, count), count + 1])
     if rng.random() < 0.1:
         n = far_beyond(rng, n)
-    yield "walk", [stored(net), buffer_of(rng, net, end), material.encode_log(pairs), n]
+    yield "walk", [stored(net), buffer_of(rng, net, end), material.encode_log(pairs), n, started]
 
 
 def every_walk_requests(rng):
     """Walks of all lengths back from the end of one short run."""
-    net = material.any_net(rng)
-    pairs, end = material.accepted_walk(rng, net, material.any_state(rng, net), rng.randint(1, 8))
+    net, started = material.any_net(rng), material.any_fact(rng)
+    pairs, end = material.accepted_walk(rng, net, material.any_state(rng, net), rng.randint(1, 8), started)
     for n in range(len(pairs) + 2):
-        yield "walk", [stored(net), buffer_of(rng, net, end), material.encode_log(pairs), n]
+        yield "walk", [stored(net), buffer_of(rng, net, end), material.encode_log(pairs), n, started]
 
 
 def hindered_walk_requests(rng):
-    """A walk back that may be refused midway: another event in the log, or another state."""
-    net, _, pairs, end = material.journey(rng)
+    """A walk back that may be refused midway: another event in the log, another state or another fact."""
+    net, _, started, pairs, end = material.journey(rng)
+    if rng.random() < 0.3:
+        started = 1 - started
     if rng.random() < 0.3:
         pairs = [rng.choice(material.candidate_pairs(rng, net)) for _ in range(3)] + pairs
     if pairs and rng.random() < 0.7:
@@ -215,7 +290,7 @@ def hindered_walk_requests(rng):
     if rng.random() < 0.4:
         at = rng.randrange(8, len(image))
         image = material.replaced(image, {at: rng.choice([0, 1, 255])})
-    yield "walk", [stored(net), material.room(rng, image), material.encode_log(pairs), len(pairs)]
+    yield "walk", [stored(net), material.room(rng, image), material.encode_log(pairs), len(pairs), started]
 
 
 def step_requests(rng):
@@ -269,13 +344,13 @@ def damaged(rng, name, arguments, share):
 
 def twofold_requests(rng):
     """Two faults at once of a run or a walk, so that the order of the numbers decides."""
-    net, _, pairs, end = material.journey(rng)
-    pairs = pairs[:20]
+    net, _, _, pairs, end = material.journey(rng)
+    pairs, started = pairs[:20], rng.randrange(2)
     data, buffer, log, n = stored(net), buffer_of(rng, net, end), material.encode_log(pairs), 0
     good = data, buffer, log
     faults = rng.sample(["net", "state", "log", "n", "event"], 2)
     if "event" in faults:
-        pairs = [material.refused_pair(rng, net, end)] + pairs
+        pairs = [material.refused_pair(rng, net, end, started)] + pairs
         log, n = material.encode_log(pairs), len(pairs)
     if "n" in faults:
         n = len(pairs) + 1
@@ -286,9 +361,9 @@ def twofold_requests(rng):
     while "log" in faults and reference.step(log, 0)[0] == 0:
         log = material.damaged_log(rng, good[2])
     if "n" in faults or rng.random() < 0.4:
-        yield "walk", [data, buffer, log, n]
+        yield "walk", [data, buffer, log, n, started]
     else:
-        yield "run", [data, buffer, log]
+        yield "run", [data, buffer, log, started]
 
 
 def damaged_requests(rng):
@@ -308,16 +383,22 @@ def flipped_requests(rng):
 
 # every call but the page
 SCENARIOS = (
-    (net_requests, 10.5),
+    (net_requests, 9.5),
     (initial_requests, 4),
     (state_requests, 6),
     (event_requests, 10),
-    (limit_requests, 19),
-    (short_requests, 6.5),
-    (tick_requests, 10),
-    (back_requests, 8),
-    (barred_requests, 20),
-    (degree_requests, 4),
+    (limit_requests, 25),
+    (short_requests, 6),
+    (tick_requests, 9),
+    (back_requests, 6),
+    (barred_requests, 29),
+    (opening_requests, 14),
+    (front_requests, 6),
+    (free_order_requests, 5),
+    (late_requests, 3),
+    (opened_run_requests, 6),
+    (portion_requests, 1),
+    (degree_requests, 3.5),
     (owed_requests, 6),
     (tall_requests, 5),
     (run_requests, 13),
@@ -330,7 +411,7 @@ SCENARIOS = (
     (damaged_step_requests, 1.5),
     (twofold_requests, 4),
     (damaged_requests, 8),
-    (flipped_requests, 10),
+    (flipped_requests, 9),
 )
 
 
@@ -428,21 +509,21 @@ def full_requests(rng, turn):
     """One request on the longest net, each call in its turn."""
     net = material.full_net(rng)
     data = stored(net)
-    begin = reference.initial_state(net)
-    pairs, state = material.accepted_walk(rng, net, begin, rng.randint(20, 60))
+    begin, started = reference.initial_state(net), material.any_fact(rng)
+    pairs, state = material.accepted_walk(rng, net, begin, rng.randint(20, 60), started)
     image = reference.state_image(net, state)
     log = material.encode_log(pairs)
     return (
-        ("run", [data, reference.state_image(net, begin), log]),
+        ("run", [data, reference.state_image(net, begin), log, started]),
         ("check_net", [data]),
         ("owed", [data, image]),
-        ("walk", [data, image, log, len(pairs)]),
+        ("walk", [data, image, log, len(pairs), started]),
         ("initial", [data, rng.randbytes(len(image))]),
-        ("back", [data, image, *pairs[-1]] if pairs else [data, image, 0, 0]),
-        ("event", [data, image, *material.any_pair(rng, net, state)]),
+        ("back", [data, image, *(pairs or [(0, 0)])[-1], started]),
+        ("event", [data, image, *material.any_pair(rng, net, state, started), started]),
         ("check_state", [data, image]),
         ("degree", [data, image, rng.choice([0, 62, 63, 64])]),
-        ("event", [data, reference.state_image(net, material.wild_state(rng, net)), 128, 63]),
+        ("event", [data, reference.state_image(net, material.wild_state(rng, net)), 128, 63, started]),
         ("initial", [data, rng.randbytes(len(image) - 1)]),
         ("check_state", [data, material.damaged_state(rng, net, image)]),
     )[turn % 12]
@@ -459,7 +540,7 @@ def longest_requests(rng, turn):
     most = reference.MAX_EVENTS
     net = ever_running(rng)
     data = stored(net)
-    begin = reference.initial_state(net)
+    begin, started = reference.initial_state(net), material.any_fact(rng)
     first = reference.state_image(net, begin)
     turn %= 9
     if turn == 6:
@@ -468,19 +549,19 @@ def longest_requests(rng, turn):
         return "check_state", [data, first + rng.randbytes(16_384 - len(first))]
     if turn == 8:
         return "step", [material.with_length(bytes([1]) + bytes(65_535)), 1]
-    pairs, state = material.accepted_walk(rng, net, begin, most + {1: 1, 3: -1}.get(turn, 0))
+    pairs, state = material.accepted_walk(rng, net, begin, most + {1: 1, 3: -1}.get(turn, 0), started)
     if turn == 3:
-        pairs.append(material.refused_pair(rng, net, state))
+        pairs.append(material.refused_pair(rng, net, state, reference.facts(pairs, started)[-1]))
     if turn == 4:
         pairs[rng.randrange(most)] = (0, 1)
     log = material.encode_log(pairs)
     last = reference.state_image(net, state)
     return (
-        ("run", [data, first, log]),
-        ("run", [data, first, log]),
-        ("walk", [data, last, log, most]),
-        ("run", [data, first, log]),
-        ("walk", [data, last, log, most]),
+        ("run", [data, first, log, started]),
+        ("run", [data, first, log, started]),
+        ("walk", [data, last, log, most, started]),
+        ("run", [data, first, log, started]),
+        ("walk", [data, last, log, most, started]),
         ("step", [log, rng.randint(0, pairs.count((0, 0)))]),
     )[turn]
 
@@ -536,6 +617,22 @@ def requests(seed, count):
 # ---- bad requests
 
 
+def without_fact(net):
+    """A request of each call that takes a fact, but for the fact, which comes last."""
+    return ("event", net, b"", 0, 0), ("back", net, b"", 0, 0), ("run", net, b"", b""), ("walk", net, b"", b"", 0)
+
+
+def bad_facts(rng, net):
+    """Requests with another number where whether a start has happened is told."""
+    others = [255, 256, 257, 65_536, 2**24 + 1, 2**31 + 1, MANY]
+    return [wire.encode(*request, fact) for request in without_fact(net) for fact in (2, rng.choice(others))]
+
+
+def cut_facts(rng, net):
+    """Requests that end within that number or before it."""
+    return [wire.encode(*request, 0)[:-short] for request in without_fact(net) for short in (4, rng.randint(1, 3))]
+
+
 def bad_requests(rng):
     """One bad request of each kind; a stream ends with it."""
     name, arguments = next(requests(rng.randrange(MANY), 1))
@@ -554,10 +651,12 @@ def bad_requests(rng):
         b"\x01" + number(MANY),
         wire.encode("initial", net, bytes(16_385)),
         wire.encode("step", bytes(65_537), 0),
-        wire.encode("event", net, b"", 256, 0),
-        wire.encode("event", net, b"", 0, 256),
-        wire.encode("back", net, b"", MANY, 0),
-        wire.encode("back", net, b"", 0, 65_536),
+        wire.encode("event", net, b"", 256, 0, 0),
+        wire.encode("event", net, b"", 0, 256, 0),
+        wire.encode("back", net, b"", MANY, 0, 0),
+        wire.encode("back", net, b"", 0, 65_536, 0),
+        *bad_facts(rng, net),
+        *cut_facts(rng, net),
         wire.encode("degree", net, b"", 0)[:-2],
         wire.encode("page", net, bytes(16_385), b"", 0),
         wire.encode("page", net, b"", bytes(65_537), 0),
@@ -570,15 +669,18 @@ def bad_requests(rng):
 
 
 def menurun_input(rng):
-    """A net and a log behind it; some damaged, too short or too long, some with a start that lacks tokens."""
+    """A net and a log behind it; some damaged, too short or too long, some with a start that lacks tokens,
+    some whose last events do not keep to W5's order."""
     if rng.random() < 0.12:
         net, begin, pairs = material.short_log(rng)
         return stored(net._replace(marking=begin.marking)) + material.encode_log(pairs)
     net = material.full_net(rng) if rng.random() < 0.02 else material.any_net(rng)
     begin = reference.initial_state(net)
-    pairs, _ = material.accepted_walk(rng, net, begin, rng.choice([3, 12, 40, 110]))
+    pairs, end = material.accepted_walk(rng, net, begin, rng.choice([3, 12, 40, 110]))
     if rng.random() < 0.4:
-        pairs = material.stumbling_walk(rng, net, begin, pairs)
+        pairs = material.stumbling_walk(rng, net, begin, pairs, 0)
+    elif rng.random() < 0.2:
+        pairs += opening_material.free_walk(rng, net, end, rng.choice([3, 8]))[0]
     data, log = stored(net), material.encode_log(pairs)
     kind = rng.randrange(20)
     if kind == 0:
@@ -685,7 +787,7 @@ def main():
         sys.stdout.buffer.write(wire.encode(name, *arguments))
     if options.bad_end:
         rng = random.Random(options.seed)
-        sys.stdout.buffer.write(rng.choice(bad_requests(rng)))
+        sys.stdout.buffer.write(rng.choice(bad_facts(rng, stored(material.ring_net(rng)))))
 
 
 if __name__ == "__main__":

@@ -4,6 +4,8 @@ Nets and states are made as the reference's own kinds and stored by the
 functions at the top; damage is done to the stored bytes.
 """
 
+from typing import NamedTuple
+
 import reference
 from reference import MAX_TOKENS, Event, Net, Refused, State, Transition
 
@@ -211,6 +213,12 @@ def some_counts(rng, net, value, spare_lfd=False):
     return counts
 
 
+def without_owed_ends(net, counts):
+    """The counts with none at a transition's lfd, but for one of 0."""
+    rows = zip(net.transitions, counts)
+    return tuple(ages[: t.lfd] + (0,) + ages[t.lfd + 1 :] if t.lfd > 0 else ages for t, ages in rows)
+
+
 def small_state(rng, net):
     marking = tuple(rng.randint(0, 4) for _ in net.marking)
     return State(marking, with_counts(net, some_counts(rng, net, lambda: rng.randint(1, 3))))
@@ -283,8 +291,8 @@ def start_at_limit(rng, net):
     inputs = net.transitions[t].inputs
     marking = emptied(rng, inputs) if rng.random() < 0.5 else tuple(3 * weight for weight in inputs)
     counts = some_counts(rng, net, lambda: edge_value(rng))
-    counts[t, 0] = rng.choice([65_535, 65_535, 65_534])
-    return State(marking, with_counts(net, counts)), (1 + t, 0)
+    counts[t, 0] = rng.choice([65_535, 65_535, 65_535, 65_534])
+    return State(marking, without_owed_ends(net, with_counts(net, counts))), (1 + t, 0)
 
 
 def end_at_limit(rng, net):
@@ -293,7 +301,7 @@ def end_at_limit(rng, net):
     row = net.transitions[t]
     age = rng.randint(row.sfd, row.lfd)
     counts = some_counts(rng, net, lambda: edge_value(rng))
-    counts[t, age] = rng.choice([0, 1, 1, 2, 2, 65_535])
+    counts[t, age] = rng.choice([0, 0, 1, 1, 2, 2, 65_535])
     return State(filled(rng, row.outputs), with_counts(net, counts)), (65 + t, age)
 
 
@@ -302,7 +310,10 @@ def start_back_at_limit(rng, net):
     t = some_transition(rng, net)
     counts = some_counts(rng, net, lambda: edge_value(rng))
     counts[t, 0] = rng.choice([0, 0, 1, 1, 2, 256, 65_280, 65_534, 65_535])
-    return State(filled(rng, net.transitions[t].inputs), with_counts(net, counts)), (1 + t, 0)
+    rows = with_counts(net, counts)
+    if rng.random() < 0.7:
+        rows = without_owed_ends(net, rows)
+    return State(filled(rng, net.transitions[t].inputs), rows), (1 + t, 0)
 
 
 def end_back_at_limit(rng, net):
@@ -354,16 +365,21 @@ BARRED = {
 }
 
 
-def barred_step(rng, number):
-    """A net, a state, and an event that is refused by the number when it is taken back from there."""
+def edged_net(rng):
+    """A net, more often than otherwise one of many ages, places or transitions."""
+    return rng.choice([any_net, any_net, any_net, slow_net, wide_net, tall_net])(rng)
+
+
+def barred_step(rng, number, make):
+    """A net, a state that the function makes, an event that is refused by the number when it is taken back
+    from there, and whether a start had happened before it."""
     while True:
-        net = rng.choice([any_net, any_net, any_net, slow_net, wide_net, tall_net])(rng)
-        state, pair = BARRED[number](rng, net)
-        try:
-            reference.backward(net, state, reference.read_event(net, *pair))
-        except reference.Refused as refused:
-            if refused.number == number:
-                return net, state, pair
+        net, started = edged_net(rng), any_fact(rng)
+        state, pair = make(rng, net)
+        event = reference.read_event(net, *pair)
+        holds = reference.back_tests(net, state, event, started)
+        if reference.first_of(reference.BACK_ORDER[event.kind], holds) == number:
+            return net, state, pair, started
 
 
 def short_row(rng, places):
@@ -452,17 +468,22 @@ def any_state(rng, net):
 # ---- events and logs
 
 
-def number_of(net, state, pair):
+def any_fact(rng):
+    """Whether a start has happened: mostly none."""
+    return int(rng.random() < 0.4)
+
+
+def number_of(net, state, pair, started):
     """The number that the event is told in this state."""
     try:
-        reference.forward(net, state, reference.read_event(net, *pair))
+        event = reference.read_event(net, *pair)
     except Refused as refused:
         return refused.number
-    return 0
+    return reference.number_met(net, state, event, started)
 
 
-def permitted(net, state):
-    """The permitted events, by kind."""
+def permitted(net, state, number):
+    """The events of which the function tells no number, by kind."""
     transitions = range(len(net.transitions))
     starts = [Event(reference.START, t) for t in transitions]
     ends = [
@@ -472,16 +493,20 @@ def permitted(net, state):
         if state.counts[t][age] > 0
     ]
     kinds = ([Event(reference.TICK)], starts, ends)
-    return [[reference.bytes_of(e) for e in events if reference.number_met(net, state, e) == 0] for events in kinds]
+    return [[reference.bytes_of(event) for event in events if number(event) == 0] for events in kinds]
 
 
-def permitted_pair(rng, net, state):
-    """A permitted event, or None."""
-    ticks, starts, ends = permitted(net, state)
+def one_of(rng, ticks, starts, ends):
+    """One of these events, or None."""
     if ticks and (not ends or rng.random() < 0.6):
         return ticks[0]
     kinds = [events for events in (starts, ends) if events]
     return rng.choice(rng.choice(kinds)) if kinds else None
+
+
+def permitted_pair(rng, net, state, started):
+    """A permitted event, or None."""
+    return one_of(rng, *permitted(net, state, lambda event: reference.number_met(net, state, event, started)))
 
 
 def candidate_pairs(rng, net):
@@ -499,26 +524,26 @@ def candidate_pairs(rng, net):
     return pairs
 
 
-def refused_pair(rng, net, state):
+def refused_pair(rng, net, state, started):
     """A refused event, each number that this state can tell as likely as another."""
     by_number = {}
     for pair in candidate_pairs(rng, net):
-        by_number.setdefault(number_of(net, state, pair), []).append(pair)
+        by_number.setdefault(number_of(net, state, pair, started), []).append(pair)
     number = rng.choice(sorted(number for number in by_number if number))
     return rng.choice(by_number[number])
 
 
-def stumbling_walk(rng, net, state, pairs):
+def stumbling_walk(rng, net, state, pairs, started):
     """An accepted walk with a refused event put in somewhere, each number that
     can be told at a few places of it as likely as another."""
     places = {0, len(pairs), *(rng.randint(0, len(pairs)) for _ in range(4))}
     by_number = {}
-    for place in range(len(pairs) + 1):
+    for place, fact in enumerate(reference.facts(pairs, started)):
         if place in places:
             for pair in candidate_pairs(rng, net):
-                by_number.setdefault(number_of(net, state, pair), []).append((place, pair))
+                by_number.setdefault(number_of(net, state, pair, fact), []).append((place, pair))
         if place < len(pairs):
-            state = reference.forward(net, state, reference.read_event(net, *pairs[place]))
+            state = reference.forward(net, state, reference.read_event(net, *pairs[place]), fact)
     number = rng.choice(sorted(number for number in by_number if number))
     place, pair = rng.choice(by_number[number])
     return pairs[:place] + [pair] + pairs[place : place + rng.choice([0, 1, len(pairs)])]
@@ -533,39 +558,51 @@ def short_log(rng):
     held = zip(state.marking, net.transitions[u].inputs)
     marking = tuple(min(MAX_TOKENS, tokens + n * weight) for tokens, weight in held)
     counts = reference.with_count(state.counts, u, 0, -min(n, state.counts[u][0]))
+    if rng.random() < 0.8:
+        counts = without_owed_ends(net, counts)
     behind = rng.choice([[], [], [(1 + t, 0)], [(65 + t, 0), (1 + t, 0)], [(0, 0)]])
     return net, State(marking, counts), [(1 + u, 0)] * n + [(1 + t, 0)] + behind
 
 
-def any_pair(rng, net, state):
-    pair = permitted_pair(rng, net, state) if rng.random() < 0.3 else None
-    return pair or refused_pair(rng, net, state)
+def any_pair(rng, net, state, started):
+    pair = permitted_pair(rng, net, state, started) if rng.random() < 0.3 else None
+    return pair or refused_pair(rng, net, state, started)
 
 
-def accepted_walk(rng, net, state, length):
+def accepted_walk(rng, net, state, length, started=0):
     """Up to so many permitted events one after another, and the state after them."""
     pairs = []
     while len(pairs) < length:
-        pair = permitted_pair(rng, net, state)
+        pair = permitted_pair(rng, net, state, started)
         if pair is None:
             break
-        state = reference.forward(net, state, reference.read_event(net, *pair))
+        state = reference.forward(net, state, reference.read_event(net, *pair), started)
+        started = reference.fact_after(started, pair)
         pairs.append(pair)
     return pairs, state
 
 
+class Journey(NamedTuple):
+    net: Net
+    begin: State
+    started: int
+    pairs: list
+    end: State
+
+
 def journey(rng):
-    """A net, a state to begin at, accepted events from there, and the state after
-    them. A net whose runs end far too early is mostly put back for another."""
+    """A net, a state to begin at, whether a start had happened there, accepted events, and the state
+    after them. A net whose runs end far too early is mostly put back for another."""
     longest = rng.choice([3, 12, 40, 40, 110, 110, 110, 400])
     length = rng.choice([longest, rng.randint(0, longest)])
     for _ in range(4):
         net = any_net(rng)
         begin = reference.initial_state(net) if rng.random() < 0.7 else any_state(rng, net)
-        pairs, end = accepted_walk(rng, net, begin, length)
+        started = any_fact(rng)
+        pairs, end = accepted_walk(rng, net, begin, length, started)
         if len(pairs) > length // 2:
             break
-    return net, begin, pairs, end
+    return Journey(net, begin, started, pairs, end)
 
 
 # ---- pages

@@ -33,7 +33,7 @@ def output(data):
     net = reference.read_net(net_bytes)
     buffer = bytearray(reference.state_length(net))
     reference.initial(net_bytes, buffer)
-    number, index, done, ticks, place, shortage = reference.run(net_bytes, buffer, log)
+    number, index, done, ticks, place, shortage, _ = reference.run(net_bytes, buffer, log, reference.NO_START_MADE)
     if 1 <= number <= 10:
         return f"result {number} {index} 0 0 0 0 0\n"
     standing = reference.owed(net_bytes, buffer)[-1]

@@ -1,20 +1,20 @@
 """The stream of requests that the program `menuask` reads."""
 
 CAPACITY = {"net": 16_384, "state": 16_384, "log": 65_536}
-BYTE_NUMBERS = ("first", "second")
+MOST = {"first": 255, "second": 255, "started": 1}
 
 # kind byte, name of the call, its parameters: a slice is named in CAPACITY,
-# any other is a number
+# any other is a number, and one named in MOST at most so large
 TABLE = (
     (1, "check_net", ("net",)),
     (2, "initial", ("net", "state")),
     (3, "check_state", ("net", "state")),
-    (4, "event", ("net", "state", "first", "second")),
-    (5, "back", ("net", "state", "first", "second")),
+    (4, "event", ("net", "state", "first", "second", "started")),
+    (5, "back", ("net", "state", "first", "second", "started")),
     (6, "degree", ("net", "state", "t")),
     (7, "owed", ("net", "state")),
-    (8, "run", ("net", "state", "log")),
-    (9, "walk", ("net", "state", "log", "n")),
+    (8, "run", ("net", "state", "log", "started")),
+    (9, "walk", ("net", "state", "log", "n", "started")),
     (10, "step", ("log", "k")),
     (11, "page", ("net", "state", "log", "budget")),
 )
@@ -23,7 +23,7 @@ BY_NAME = {name: (kind, parameters) for kind, name, parameters in TABLE}
 
 
 class BadRequest(Exception):
-    """A request that is too long, of an unknown kind or cut short."""
+    """A request that is too long, of an unknown kind, cut short, or with a number above its most."""
 
 
 def four_bytes(number):
@@ -62,7 +62,7 @@ def decode(stream, at):
     for parameter in parameters:
         number = int.from_bytes(take(4), "big")
         if parameter not in CAPACITY:
-            if parameter in BYTE_NUMBERS and number > 255:
+            if number > MOST.get(parameter, number):
                 raise BadRequest
             arguments.append(number)
         elif number > CAPACITY[parameter]:

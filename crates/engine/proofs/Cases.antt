@@ -4,8 +4,9 @@ use mathlib.Core.Path.{refl}
 use Rattle.model.specs.Tab.{tab, all, largest, least, howMany, lowest, one}
 use Rattle.model.specs.Net.{width, tokens, count, build, initialState}
 use Rattle.model.specs.Rules.{lackingPlace, enabled?, short, no-start-owed?, no-end-owed?, nothing-running?, timely?, has-room?, covers?, none-fresh?}
+use Rattle.model.specs.Rules.{may-end?, owes-no-old-end?, no-old-end-owed?}
 use Rattle.model.specs.Rules.{older, started, ended, ticked, unstarted, unended, unticked, apply, back, times, degree}
-use Rattle.model.specs.Run.{inTurn, run, walkBack, walk}
+use Rattle.model.specs.Run.{startedAfter, turns, inTurn, run, walkBack, walk}
 use Rattle.model.specs.Owed.{owes-start?, owes-end?, standingOf, owed}
 use Rattle.forms.specs.Word.{word, word32, blank?, setWord, setWord32, putWords, putRows}
 use Rattle.forms.specs.Places.{rowAt, countAt, stateLength}
@@ -29,7 +30,7 @@ unfolding cases AllHold
     checkNet net-head? checkRow some-weight? checkState has-head? none-past? checkLog is-log? begins? checksInTurn
     netOf stateOf eventsIn word word32 blank? setWord putWords putRows rowAt countAt stateLength written
     run inTurn owed owes-start? owes-end? standingOf apply back started ended ticked unstarted unended unticked older
-    lackingPlace enabled? short no-start-owed? no-end-owed? nothing-running? timely? has-room? covers? none-fresh?
+    lackingPlace enabled? short no-start-owed? no-end-owed? nothing-running? timely? has-room? covers? none-fresh? may-end? owes-no-old-end? no-old-end-owed? startedAfter turns
     width tokens count build tab all largest howMany lowest one
 cases-hold = (
   refl,
@@ -67,7 +68,7 @@ unfolding netTold stateTold initialTold initialLeft eventTold eventLeft backTold
     netOf stateOf eventsIn word word32 blank? setWord setWord32 putWords putRows rowAt countAt stateLength
     written headed image afterInitial initialState startFrom endFrom wordOf
     run walk walkBack inTurn owed owes-start? owes-end? standingOf degree times apply back started ended ticked unstarted unended unticked older
-    lackingPlace enabled? short no-start-owed? no-end-owed? nothing-running? timely? has-room? covers? none-fresh?
+    lackingPlace enabled? short no-start-owed? no-end-owed? nothing-running? timely? has-room? covers? none-fresh? may-end? owes-no-old-end? no-old-end-owed? startedAfter turns
     width tokens count build tab all largest least howMany lowest one
 further = record {
   good-net = refl;
@@ -94,6 +95,15 @@ further = record {
   six-back = (refl, refl);
   none-back = (refl, refl);
   one-back = (refl, refl);
+  old-end-first = (refl, refl);
+  then-the-start = refl;
+  old-end-late = (refl, refl);
+  late-given = refl;
+  late-back = (refl, refl);
+  set-in-front = refl;
+  cleared-in-front = refl;
+  given-in-front = refl;
+  no-fact = refl;
   overdue-state = refl;
   overdue-event = (refl, refl);
   short-event = (refl, refl);

@@ -110,12 +110,12 @@ told-passes net b =
         λ p. rw (p .1),
       );
       initial = zero-passes (examineNet net) _ unfit verdict (λ why. refl);
-      event = λ first second. zero-passes (examineState net b) _ eventUnfit event (λ why. refl);
-      back = λ first second. zero-passes (examineState net b) _ unfit verdict (λ why. refl);
+      event = λ first second started. zero-passes (examineState net b) _ eventUnfit event (λ why. refl);
+      back = λ first second started. zero-passes (examineState net b) _ unfit verdict (λ why. refl);
       degree = λ t. zero-passes (examineState net b) _ noDegree (λ (x : DegreeTold). x .number) (λ why. refl);
       owed = zero-passes (examineState net b) _ noReport (λ (x : OwedTold). x .number) (λ why. refl);
-      run = λ log. zero-passes (examineLog net b log) _ runFault ran (λ why. refl);
-      walk = λ log n. zero-passes (examineLog net b log) _ walkFault told (λ why. refl);
+      run = λ log started. zero-passes (examineLog net b log) _ runFault ran (λ why. refl);
+      walk = λ log n started. zero-passes (examineLog net b log) _ walkFault told (λ why. refl);
     }
 
 pub told-fault : (net b : List ℕ) → ToldFault net b
@@ -125,11 +125,11 @@ told-fault net b = record {
   check-net = λ why e. ap verdictOf (bad-then (checkNet net) _ e);
   check-state = λ why e. rw e;
   initial = λ why e. (rw e, rw e);
-  event = λ why e first second. (rw e, rw e);
-  back = λ why e first second. (rw e, rw e);
+  event = λ why e first second started. (rw e, rw e);
+  back = λ why e first second started. (rw e, rw e);
   degree = λ why e t. rw e;
   owed = λ why e. rw e;
-  run = λ log why e. (rw e, rw e);
-  walk = λ log why e n. (rw e, rw e);
+  run = λ log why e started. (rw e, rw e);
+  walk = λ log why e n started. (rw e, rw e);
   step = λ log why e k. rw e;
 }

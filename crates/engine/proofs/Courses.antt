@@ -1,7 +1,8 @@
 -- Outcomes by the numbers that are told of them; and runs and walks of the model, as the demands on bytes use them.
 -- Assumes nothing.
 use mathlib.Core.Path.{_≡_, refl, sym, ap, subst, _∙_}
-use mathlib.Core.List.{List, [], _∷_, _++_}
+use mathlib.Core.Bool.{Bool}
+use mathlib.Core.List.{List, [], _++_}
 use Prim.Native.Nat.{ℕ, _+_, _<_, _≤_}
 use native.Mathlib.Omega.{arith}
 use lib.ListN.{length, take, length-append}
@@ -15,9 +16,10 @@ use Rattle.model.specs.declared.answer.Answer.the-variants as answer
 use Rattle.model.specs.Answer.{Telling, tellingOfRefusal, tellingOf, numberOf as numberOfAnswer, numberOfRefusal}
 use Rattle.model.specs.Net.{Net, State, Lawful}
 use Rattle.model.specs.Rules.{Outcome, done, refused, answerOf}
-use Rattle.model.specs.Run.{RunTold as RunAccount, WalkTold as WalkAccount, Leads, stay, RunCloses, WalkCloses, Walked, lastOf, ticksIn}
-use Rattle.model.specs.Run.{tooMany, run, walk}
-use Rattle.model.proofs.Run.{leads-append, run-ran, ran-only}
+use Rattle.model.specs.Run.{RunTold as RunAccount, WalkTold as WalkAccount, Leads, LeadsLast, stay, RunCloses, WalkCloses, Walked, ticksIn}
+use Rattle.model.specs.Run.{startedAfter, startedBefore, tooMany, run, walk}
+use Rattle.model.proofs.Facts.{started-append}
+use Rattle.model.proofs.Run.{leads-append, ticks-append, run-ran, ran-only}
 use Rattle.model.proofs.Tellings.{refusal-number, one-telling, one-number}
 use Rattle.forms.specs.Written.{written}
 use Rattle.moves.specs.After.{after}
@@ -84,11 +86,6 @@ is-barred {o = o} c other why e = number-refused o why other (ap (λ (x : Verdic
 
 -- RUNS AND WALKS OF THE MODEL
 
-ticks-append : (es fs : List Event) → ticksIn (es ++ fs) ≡ ticksIn es + ticksIn fs
-unfolding ticksIn
-ticks-append [] fs = omega arith
-ticks-append (e ∷ es) fs = omega (arith, ticks-append es fs)
-
 -- what is told of events behind others that were done
 abbrev pub toldBehind : List Event → RunAccount → RunAccount
 toldBehind es r = record {
@@ -97,46 +94,57 @@ toldBehind es r = record {
   done = length es + r .done;
   ticks = ticksIn es + r .ticks;
   short = r .short;
+  started = r .started;
   state = r .state;
 }
 
-behind-closes : (N : Net) (es fs : List Event) (r : RunAccount) → RunCloses N fs r → RunCloses N (es ++ fs) (toldBehind es r)
-behind-closes N es fs r (RunCloses.accepted n d) = RunCloses.accepted n (omega (arith, length-append es fs))
-behind-closes N es fs r (RunCloses.stopped why n l f) =
-    RunCloses.stopped why n (omega (arith, length-append es fs)) (rw (getD-append-add es fs (r .done) event.Malformed) f)
+-- the fact before event k of those behind
+fact-behind : (started : Bool) (es fs : List Event) (k : ℕ)
+    → startedBefore started (es ++ fs) (length es + k) ≡ startedBefore (startedAfter started es) fs k
+fact-behind started es fs k = rw (take-append-add es fs k) (started-append started es (take k fs))
 
--- a run of events behind others that lead on is a run from where they lead
-pub run-append : (N : Net) (S S₁ : State) (es fs : List Event) → Leads N S es S₁ → run N S (es ++ fs) ≡ toldBehind es (run N S₁ fs)
-run-append N S S₁ es fs m =
-    let r = run N S₁ fs in
-    let h = run-ran N S₁ fs in
-    sym (ran-only N S (es ++ fs) (toldBehind es r) (record {
+behind-closes : (N : Net) (started : Bool) (es fs : List Event) (r : RunAccount) → RunCloses N (startedAfter started es) fs r
+    → RunCloses N started (es ++ fs) (toldBehind es r)
+behind-closes N started es fs r (RunCloses.accepted n d) = RunCloses.accepted n (omega (arith, length-append es fs))
+behind-closes N started es fs r (RunCloses.stopped why n l f) =
+    RunCloses.stopped why n (omega (arith, length-append es fs))
+    (rw (fact-behind started es fs (r .done), getD-append-add es fs (r .done) event.Malformed) f)
+
+-- a run of events behind others that lead on is a run from where they lead, with the fact that stands there
+pub run-append : (N : Net) (started : Bool) (S S₁ : State) (es fs : List Event) → Leads N started S es S₁
+    → run N started S (es ++ fs) ≡ toldBehind es (run N (startedAfter started es) S₁ fs)
+run-append N started S S₁ es fs m =
+    let fact = startedAfter started es in
+    let r = run N fact S₁ fs in
+    let h = run-ran N fact S₁ fs in
+    sym (ran-only N started S (es ++ fs) (toldBehind es r) (record {
       led = rw (take-append-add es fs (r .done)) (leads-append m (h .led));
       ticks-are = rw (take-append-add es fs (r .done)) (omega (arith, h .ticks-are, ticks-append es (take (r .done) fs)));
       index-is = omega (arith, h .index-is);
-      closes = behind-closes N es fs r (h .closes);
+      started-is = h .started-is ∙ sym (fact-behind started es fs (r .done));
+      closes = behind-closes N started es fs r (h .closes);
     }))
 
 -- a walk leaves a lawful state
-pub walked-lawful : (N : Net) (S′ : State) (es : List Event) (n : ℕ) (r : WalkAccount)
-    → Lawful N S′ → Walked N S′ es n r → Lawful N (r .state)
-walked-lawful N S′ es n r s′ (Walked.too-many h a b c d e) = subst (Lawful N) (sym e) s′
-walked-lawful N S′ es n r s′ (Walked.within h w) = w .lawful
+pub walked-lawful : (N : Net) (started : Bool) (S′ : State) (es : List Event) (n : ℕ) (r : WalkAccount)
+    → Lawful N S′ → Walked N started S′ es n r → Lawful N (r .state)
+walked-lawful N started S′ es n r s′ (Walked.too-many h a b c d e) = subst (Lawful N) (sym e) s′
+walked-lawful N started S′ es n r s′ (Walked.within h w) = w .lawful
 
 -- and one that is accepted leaves a state from which the last n events lead here
-pub walked-from : (N : Net) (S′ : State) (es : List Event) (n : ℕ) (r : WalkAccount) → Walked N S′ es n r → r .number ≡ 0
-    → (n ≤ length es) × ((S : State) × Lawful N S × Leads N S (lastOf n es) S′)
-walked-from N S′ es n r (Walked.too-many h a b c d e) z = absurd (omega arith)
-walked-from N S′ es n r (Walked.within h w) z = (h, closed (w .closes))
+pub walked-from : (N : Net) (started : Bool) (S′ : State) (es : List Event) (n : ℕ) (r : WalkAccount) → Walked N started S′ es n r → r .number ≡ 0
+    → (n ≤ length es) × ((S : State) × Lawful N S × LeadsLast N started n S es S′)
+walked-from N started S′ es n r (Walked.too-many h a b c d e) z = absurd (omega arith)
+walked-from N started S′ es n r (Walked.within h w) z = (h, closed (w .closes))
   where
-    closed : WalkCloses N es n r → (S : State) × Lawful N S × Leads N S (lastOf n es) S′
-    closed (WalkCloses.accepted _ d _) = (r .state, w .lawful, subst (λ (k : ℕ). Leads N (r .state) (lastOf k es) S′) d (w .led))
+    closed : WalkCloses N started es n r → (S : State) × Lawful N S × LeadsLast N started n S es S′
+    closed (WalkCloses.accepted _ d _) = (r .state, w .lawful, subst (λ (k : ℕ). LeadsLast N started k (r .state) es S′) d (w .led))
     closed (WalkCloses.stopped why m _ _ _) = refusal-number why (sym m ∙ z)
 
-pub walk-none : (N : Net) (S′ : State) (es : List Event) (n : ℕ) → length es < n → walk N S′ es n ≡ tooMany S′
+pub walk-none : (N : Net) (started : Bool) (S′ : State) (es : List Event) (n : ℕ) → length es < n → walk N started S′ es n ≡ tooMany S′
 unfolding walk
-walk-none N S′ es n h = rw (lt-ltb (length es) n h)
+walk-none N started S′ es n h = rw (lt-ltb (length es) n h)
 
 -- no events lead nowhere
-pub leads-none : {N : Net} {S S′ : State} → Leads N S [] S′ → S ≡ S′
+pub leads-none : {N : Net} {started : Bool} {S S′ : State} → Leads N started S [] S′ → S ≡ S′
 leads-none stay = refl

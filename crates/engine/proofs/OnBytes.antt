@@ -1,5 +1,6 @@
 -- The demands hold on bytes. Each field cites the theorem that carries it.
 -- Assumes nothing.
+use Rattle.model.proofs.Order.{step-order}
 use Rattle.forms.proofs.Logs.{log-exact}
 use Rattle.forms.proofs.AsListed.{as-listed}
 use Rattle.engine.specs.OnBytes.{OnBytes}
@@ -17,6 +18,7 @@ on-bytes = record {
   told-fault = told-fault;
   demand-2 = demand-2;
   demand-3 = demand-3;
+  step-order = step-order;
   initial = initial-given;
   log-good = log-exact;
   steps = steps-of;

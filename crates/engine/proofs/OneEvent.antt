@@ -1,6 +1,7 @@
 -- Demands 2 and 3 on bytes, for one event done and taken back.
 -- Assumes nothing.
 use mathlib.Core.Path.{_≡_, refl, sym, ap, subst, _∙_}
+use mathlib.Core.Bool.{Bool}
 use mathlib.Core.Logic.{_↔_}
 use mathlib.Core.List.{List}
 use Prim.Native.Nat.{ℕ}
@@ -69,7 +70,7 @@ module _ (net : List ℕ) (shape : Shape) (b : List ℕ) (f : Framed net shape b
   abbrev backNumber : Verdict → ℕ
   backNumber x = x .number
 
-  module _ (first second : ℕ) where
+  module _ (first second : ℕ) (started : Bool) where
     abbrev e : Event
     e = eventOf first second
 
@@ -77,79 +78,79 @@ module _ (net : List ℕ) (shape : Shape) (b : List ℕ) (f : Framed net shape b
     with-number : (r : EventTold) (a : Answer) → r .number ≡ 13 → r ≡ eventAnswered a → r ≡ saysEvent 13 0 (r .short)
     with-number r a z said = λ i. record { number = z i; index = said i .index; short = r .short }
 
-    pub event-done : EventDone net b first second (eventTold net b first second) (eventLeft net b first second)
+    pub event-done : EventDone net b first second started (eventTold net b first second started) (eventLeft net b first second started)
     event-done =
-        let c = event-comes net shape b f first second in
-        let told : (why : Refusal) → (eventTold net b first second ≡ eventAnswered (answer.Refused why)) ↔ Refuses N S e why =
+        let c = event-comes net shape b f first second started in
+        let told : (why : Refusal) → (eventTold net b first second started ≡ eventAnswered (answer.Refused why)) ↔ Refuses N started S e why =
         λ why. (
-          (λ z. apply-refuses N S e why .0 (is-refused c why z)),
-          λ h. on-refused c why (apply-refuses N S e why .1 h),
+          (λ z. apply-refuses N started S e why .0 (is-refused c why z)),
+          λ h. on-refused c why (apply-refuses N started S e why .1 h),
         ) in
-        let short : (s : Short) → (eventTold net b first second ≡ eventAnswered (answer.Refused (refusal.NotEnabled s))) ↔ FallsShort N S e s =
+        let short : (s : Short) → (eventTold net b first second started ≡ eventAnswered (answer.Refused (refusal.NotEnabled s))) ↔ FallsShort N S e s =
         λ s.
         let why = refusal.NotEnabled s in
-        ((λ z. falls-short (told why .0 z)), λ h. on-refused c why (short-told N S e s .1 h)) in
+        ((λ z. falls-short (told why .0 z)), λ h. on-refused c why (short-told N started S e s .1 h)) in
         record {
           permitted = (
-            (λ z. let (S′, d) = is-done c eventNumber (λ a. refl) z in (S′, apply-exact N S e S′ .0 d)),
-            λ (S′, m). ap eventNumber (on-done c S′ (apply-exact N S e S′ .1 m) .0),
+            (λ z. let (S′, d) = is-done c eventNumber (λ a. refl) z in (S′, apply-exact N started S e S′ .0 d)),
+            λ (S′, m). ap eventNumber (on-done c S′ (apply-exact N started S e S′ .1 m) .0),
           );
           done = λ S′ m.
-              let (a, w) = on-done c S′ (apply-exact N S e S′ .1 m) in
-              (a, leaves (eventLeft net b first second) S′ (moves-lawful e lawful m) w);
+              let (a, w) = on-done c S′ (apply-exact N started S e S′ .1 m) in
+              (a, leaves (eventLeft net b first second started) S′ (moves-lawful started e lawful m) w);
           refused = told;
           short = short;
           just = λ z.
-              let s = eventTold net b first second .short in
-              just-short N S e s (short s .0 (with-number (eventTold net b first second) (answerOf (apply N S e)) z (c .said)));
-          plain = λ h. ap (λ (x : EventTold). x .short) (c .said) ∙ no-place (answerOf (apply N S e)) (λ z. h (ap eventNumber (c .said) ∙ z));
+              let s = eventTold net b first second started .short in
+              just-short N S e s (short s .0 (with-number (eventTold net b first second started) (answerOf (apply N started S e)) z (c .said)));
+          plain = λ h. ap (λ (x : EventTold). x .short) (c .said) ∙ no-place (answerOf (apply N started S e)) (λ z. h (ap eventNumber (c .said) ∙ z));
           kept = on-none c eventNumber (λ a. refl);
         }
 
-    event-undone : eventTold net b first second .number ≡ 0
-        → (backTold net (eventLeft net b first second) first second .number ≡ 0)
-        × (backLeft net (eventLeft net b first second) first second ≡ b)
+    event-undone : eventTold net b first second started .number ≡ 0
+        → (backTold net (eventLeft net b first second started) first second started .number ≡ 0)
+        × (backLeft net (eventLeft net b first second started) first second started ≡ b)
     event-undone z =
-        let c = event-comes net shape b f first second in
+        let c = event-comes net shape b f first second started in
         let (S′, d) = is-done c eventNumber (λ a. refl) z in
-        let (t, same) = undone net shape b f small e S′ d in
-        let back = back-comes net shape (written N S′ b) (apply-framed net shape b f small e S′ d) first second in
+        let (t, same) = undone net shape b f small started e S′ d in
+        let back = back-comes net shape (written N S′ b) (apply-framed net shape b f small started e S′ d) first second started in
         rw (on-done c S′ d .1) (ap backNumber (on-done back S t .0), back .wrote ∙ same)
 
-    back-redone : backTold net b first second .number ≡ 0
-        → (eventTold net (backLeft net b first second) first second .number ≡ 0)
-        × (eventLeft net (backLeft net b first second) first second ≡ b)
+    back-redone : backTold net b first second started .number ≡ 0
+        → (eventTold net (backLeft net b first second started) first second started .number ≡ 0)
+        × (eventLeft net (backLeft net b first second started) first second started ≡ b)
     back-redone z =
-        let c = back-comes net shape b f first second in
+        let c = back-comes net shape b f first second started in
         let (S₀, d) = is-done c backNumber (λ a. refl) z in
-        let (t, same) = redone net shape b f small e S₀ d in
-        let forth = event-comes net shape (written N S₀ b) (back-framed net shape b f small e S₀ d) first second in
+        let (t, same) = redone net shape b f small started e S₀ d in
+        let forth = event-comes net shape (written N S₀ b) (back-framed net shape b f small started e S₀ d) first second started in
         rw (on-done c S₀ d .1) (ap eventNumber (on-done forth S t .0), forth .wrote ∙ same)
 
-    pub event-back : EventBack net b first second (backTold net b first second) (backLeft net b first second)
+    pub event-back : EventBack net b first second started (backTold net b first second started) (backLeft net b first second started)
     event-back =
-        let c = back-comes net shape b f first second in
-        let told : (why : Refusal) → (backTold net b first second ≡ answered (answer.Refused why)) ↔ Barred N S e why =
+        let c = back-comes net shape b f first second started in
+        let told : (why : Refusal) → (backTold net b first second started ≡ answered (answer.Refused why)) ↔ Barred N started S e why =
         λ why. (
-          (λ z. back-refuses N S e why .0 (is-barred c (λ w d. barred-other (back-refuses N S e w .0 d)) why z)),
-          λ h. on-refused c why (back-refuses N S e why .1 h),
+          (λ z. back-refuses N started S e why .0 (is-barred c (λ w d. barred-other (back-refuses N started S e w .0 d)) why z)),
+          λ h. on-refused c why (back-refuses N started S e why .1 h),
         ) in
         record {
           permitted = (
             (λ z.
                 let (S₀, d) = is-done c backNumber (λ a. refl) z in
-                let (s₀, m) = back-exact N S lawful e S₀ .0 d in
+                let (s₀, m) = back-exact N started S lawful e S₀ .0 d in
                 (S₀, s₀, m)),
-            λ (S₀, s₀, m). ap backNumber (on-done c S₀ (back-exact N S lawful e S₀ .1 (s₀, m)) .0),
+            λ (S₀, s₀, m). ap backNumber (on-done c S₀ (back-exact N started S lawful e S₀ .1 (s₀, m)) .0),
           );
           done = λ S₀ s₀ m.
-              let (a, w) = on-done c S₀ (back-exact N S lawful e S₀ .1 (s₀, m)) in
-              (a, leaves (backLeft net b first second) S₀ s₀ w);
+              let (a, w) = on-done c S₀ (back-exact N started S lawful e S₀ .1 (s₀, m)) in
+              (a, leaves (backLeft net b first second started) S₀ s₀ w);
           refused = told;
           no-state-before = (
-            (λ (why, z, behind). no-state-before N S lawful e .0 (why, back-refuses N S e why .1 (told why .0 z), behind)),
+            (λ (why, z, behind). no-state-before N started S lawful e .0 (why, back-refuses N started S e why .1 (told why .0 z), behind)),
             λ none.
-                let (why, r, behind) = no-state-before N S lawful e .1 none in
+                let (why, r, behind) = no-state-before N started S lawful e .1 none in
                 (why, on-refused c why r, behind),
           );
           kept = on-none c backNumber (λ a. refl);

@@ -2,6 +2,7 @@
 -- and leaves the model's state written over the front.
 -- Assumes nothing.
 use mathlib.Core.Path.{_≡_, sym}
+use mathlib.Core.Bool.{Bool}
 use mathlib.Core.List.{List}
 use Prim.Native.Nat.{ℕ}
 use Rattle.model.specs.declared.net.Net.{Net as Shape}
@@ -42,12 +43,12 @@ module _ (net : List ℕ) (shape : Shape) (b : List ℕ) (f : Framed net shape b
 -- WHAT THE CALLS TELL AND LEAVE, BEHIND THEIR CHECKS
 
 module _ (net : List ℕ) (shape : Shape) (b : List ℕ) (f : Framed net shape b) where
-  module _ (first second : ℕ) where
-    pub event-comes : ComesTo eventAnswered (netOf net) b (applied net b (eventOf first second)) (eventTold net b first second) (eventLeft net b first second)
+  module _ (first second : ℕ) (started : Bool) where
+    pub event-comes : ComesTo eventAnswered (netOf net) b (applied net started b (eventOf first second)) (eventTold net b first second started) (eventLeft net b first second started)
     unfolding eventTold eventLeft
     event-comes = let s = fits-state net shape b f in record { said = rw s; wrote = rw s }
 
-    pub back-comes : ComesTo answered (netOf net) b (takenBack net b (eventOf first second)) (backTold net b first second) (backLeft net b first second)
+    pub back-comes : ComesTo answered (netOf net) b (takenBack net started b (eventOf first second)) (backTold net b first second started) (backLeft net b first second started)
     unfolding backTold backLeft
     back-comes = let s = fits-state net shape b f in record { said = rw s; wrote = rw s }
 
@@ -59,19 +60,19 @@ module _ (net : List ℕ) (shape : Shape) (b : List ℕ) (f : Framed net shape b
   unfolding owedTold
   owed-told = rw (fits-state net shape b f)
 
-  module _ (log : List ℕ) (l : IsLog log) where
-    pub run-told : runTold net b log ≡ toldOfRun (ran net b (eventsPart log))
+  module _ (log : List ℕ) (l : IsLog log) (started : Bool) where
+    pub run-told : runTold net b log started ≡ toldOfRun (ran net started b (eventsPart log))
     unfolding runTold
     run-told = rw (fits-log net shape b f log l)
 
-    pub run-left : runLeft net b log ≡ written (netOf net) (ran net b (eventsPart log) .state) b
+    pub run-left : runLeft net b log started ≡ written (netOf net) (ran net started b (eventsPart log) .state) b
     unfolding runLeft
     run-left = rw (fits-log net shape b f log l)
 
-    pub walk-told : (n : ℕ) → walkTold net b log n ≡ toldOfWalk (walked net b (eventsPart log) n)
+    pub walk-told : (n : ℕ) → walkTold net b log n started ≡ toldOfWalk (walked net started b (eventsPart log) n)
     unfolding walkTold
     walk-told n = rw (fits-log net shape b f log l)
 
-    pub walk-left : (n : ℕ) → walkLeft net b log n ≡ written (netOf net) (walked net b (eventsPart log) n .state) b
+    pub walk-left : (n : ℕ) → walkLeft net b log n started ≡ written (netOf net) (walked net started b (eventsPart log) n .state) b
     unfolding walkLeft
     walk-left n = rw (fits-log net shape b f log l)

@@ -2,6 +2,7 @@
 -- what the call's own proof learns of its slices, that their elements are bytes.
 -- Assumes nothing.
 use mathlib.Core.Path.{_≡_, refl, sym, ap, _∙_}
+use mathlib.Core.Bool.{Bool}
 use mathlib.Core.List.{List, []}
 use Prim.Native.Nat.{ℕ}
 use denote.Ref.{RefT, now}
@@ -117,29 +118,29 @@ module _ (net : List ℕ) (bytes : Bytes net) where
         adds (OwedPromise net b) (owedTold net b)
         (of-state net bytes b small (told-fault net b .owed) (λ p. demand-2 net b bytes small p .owed))
 
-    module _ (first second : ℕ) where
-      pub event-promised : AddsTwo (EventPromise net b first second) (eventTold net b first second) (eventLeft net b first second)
+    module _ (first second : ℕ) (started : Bool) where
+      pub event-promised : AddsTwo (EventPromise net b first second started) (eventTold net b first second started) (eventLeft net b first second started)
       event-promised =
-          adds-two (EventPromise net b first second) (eventTold net b first second) (eventLeft net b first second)
-          (of-state net bytes b small (λ why e. told-fault net b .event why e first second)
-          (λ p. demand-2 net b bytes small p .event-by-event first second))
+          adds-two (EventPromise net b first second started) (eventTold net b first second started) (eventLeft net b first second started)
+          (of-state net bytes b small (λ why e. told-fault net b .event why e first second started)
+          (λ p. demand-2 net b bytes small p .event-by-event first second started))
 
-      pub back-promised : AddsTwo (BackPromise net b first second) (backTold net b first second) (backLeft net b first second)
+      pub back-promised : AddsTwo (BackPromise net b first second started) (backTold net b first second started) (backLeft net b first second started)
       back-promised =
-          adds-two (BackPromise net b first second) (backTold net b first second) (backLeft net b first second)
-          (of-state net bytes b small (λ why e. told-fault net b .back why e first second)
-          (λ p. demand-3 net b small p .event-by-event first second))
+          adds-two (BackPromise net b first second started) (backTold net b first second started) (backLeft net b first second started)
+          (of-state net bytes b small (λ why e. told-fault net b .back why e first second started)
+          (λ p. demand-3 net b small p .event-by-event first second started))
 
-    module _ (log : List ℕ) (few : Bytes log) where
-      pub run-promised : AddsTwo (RunPromise net b log) (runTold net b log) (runLeft net b log)
+    module _ (log : List ℕ) (few : Bytes log) (started : Bool) where
+      pub run-promised : AddsTwo (RunPromise net b log started) (runTold net b log started) (runLeft net b log started)
       run-promised =
-          adds-two (RunPromise net b log) (runTold net b log) (runLeft net b log)
-          (of-log net bytes b small log few (told-fault net b .run log) (λ p q. demand-2 net b bytes small q .log-by-log log p))
+          adds-two (RunPromise net b log started) (runTold net b log started) (runLeft net b log started)
+          (of-log net bytes b small log few (λ why e. told-fault net b .run log why e started) (λ p q. demand-2 net b bytes small q .log-by-log log p started))
 
-      pub walk-promised : (n : ℕ) → AddsTwo (WalkPromise net b log n) (walkTold net b log n) (walkLeft net b log n)
+      pub walk-promised : (n : ℕ) → AddsTwo (WalkPromise net b log n started) (walkTold net b log n started) (walkLeft net b log n started)
       walk-promised n =
-          adds-two (WalkPromise net b log n) (walkTold net b log n) (walkLeft net b log n)
-          (of-log net bytes b small log few (λ why e. told-fault net b .walk log why e n) (λ p q. demand-3 net b small q .log-by-log log p n))
+          adds-two (WalkPromise net b log n started) (walkTold net b log n started) (walkLeft net b log n started)
+          (of-log net bytes b small log few (λ why e. told-fault net b .walk log why e n started) (λ p q. demand-3 net b small q .log-by-log log p n started))
 
 module _ (log : List ℕ) (bytes : Bytes log) (k : ℕ) where
   by-check : (c : Checked) → checkLog log ≡ c → StepPromise log k (stepTold log k)

@@ -1,6 +1,7 @@
 -- What each call tells and leaves, for any bytes.
 -- Assumes nothing.
 use mathlib.Core.Path.{_≡_}
+use mathlib.Core.Bool.{Bool}
 use mathlib.Core.List.{List}
 use Prim.Native.Nat.{ℕ, _+_}
 use lib.ListN.{take, drop}
@@ -44,22 +45,22 @@ initialTold net state = ifFit (examineNet net) (verdictOf (checkRoom (netOf net)
 unfoldable pub initialLeft : List ℕ → List ℕ → List ℕ
 initialLeft net state = ifFit (examineNet net) (afterInitial (netOf net) state) (λ why. state)
 
--- ONE EVENT, DONE AND TAKEN BACK
+-- ONE EVENT, DONE AND TAKEN BACK. `started`: a start has happened before it in its step
 
-unfoldable pub eventTold : List ℕ → List ℕ → ℕ → ℕ → EventTold
-eventTold net state first second =
-    ifFit (examineState net state) (eventAnswered (answerOf (applied net state (eventOf first second)))) eventUnfit
+unfoldable pub eventTold : List ℕ → List ℕ → ℕ → ℕ → Bool → EventTold
+eventTold net state first second started =
+    ifFit (examineState net state) (eventAnswered (answerOf (applied net started state (eventOf first second)))) eventUnfit
 
-unfoldable pub eventLeft : List ℕ → List ℕ → ℕ → ℕ → List ℕ
-eventLeft net state first second =
-    ifFit (examineState net state) (after (netOf net) (applied net state (eventOf first second)) state) (λ why. state)
+unfoldable pub eventLeft : List ℕ → List ℕ → ℕ → ℕ → Bool → List ℕ
+eventLeft net state first second started =
+    ifFit (examineState net state) (after (netOf net) (applied net started state (eventOf first second)) state) (λ why. state)
 
-unfoldable pub backTold : List ℕ → List ℕ → ℕ → ℕ → Verdict
-backTold net state first second = ifFit (examineState net state) (answered (answerOf (takenBack net state (eventOf first second)))) unfit
+unfoldable pub backTold : List ℕ → List ℕ → ℕ → ℕ → Bool → Verdict
+backTold net state first second started = ifFit (examineState net state) (answered (answerOf (takenBack net started state (eventOf first second)))) unfit
 
-unfoldable pub backLeft : List ℕ → List ℕ → ℕ → ℕ → List ℕ
-backLeft net state first second =
-    ifFit (examineState net state) (after (netOf net) (takenBack net state (eventOf first second)) state) (λ why. state)
+unfoldable pub backLeft : List ℕ → List ℕ → ℕ → ℕ → Bool → List ℕ
+backLeft net state first second started =
+    ifFit (examineState net state) (after (netOf net) (takenBack net started state (eventOf first second)) state) (λ why. state)
 
 -- WHAT A STATE OWES
 
@@ -69,23 +70,23 @@ degreeTold net state t = ifFit (examineState net state) (degreeOf (netOf net) (s
 unfoldable pub owedTold : List ℕ → List ℕ → OwedTold
 owedTold net state = ifFit (examineState net state) (owedOf (reported (netOf net) (stored net state))) noReport
 
--- A LOG, RUN AND WALKED BACK
+-- A LOG, RUN AND WALKED BACK. `started`: a start has happened before its first event, in its step
 
 -- the events follow the fifth byte of the log
 abbrev pub eventsPart : List ℕ → List ℕ
 eventsPart log = drop (eventAt 0) log
 
-unfoldable pub runTold : List ℕ → List ℕ → List ℕ → RunTold
-runTold net state log = ifFit (examineLog net state log) (toldOfRun (ran net state (eventsPart log))) runFault
+unfoldable pub runTold : List ℕ → List ℕ → List ℕ → Bool → RunTold
+runTold net state log started = ifFit (examineLog net state log) (toldOfRun (ran net started state (eventsPart log))) runFault
 
-unfoldable pub runLeft : List ℕ → List ℕ → List ℕ → List ℕ
-runLeft net state log = ifFit (examineLog net state log) (left net (ran net state (eventsPart log) .state) state) (λ why. state)
+unfoldable pub runLeft : List ℕ → List ℕ → List ℕ → Bool → List ℕ
+runLeft net state log started = ifFit (examineLog net state log) (left net (ran net started state (eventsPart log) .state) state) (λ why. state)
 
-unfoldable pub walkTold : List ℕ → List ℕ → List ℕ → ℕ → WalkTold
-walkTold net state log n = ifFit (examineLog net state log) (toldOfWalk (walked net state (eventsPart log) n)) walkFault
+unfoldable pub walkTold : List ℕ → List ℕ → List ℕ → ℕ → Bool → WalkTold
+walkTold net state log n started = ifFit (examineLog net state log) (toldOfWalk (walked net started state (eventsPart log) n)) walkFault
 
-unfoldable pub walkLeft : List ℕ → List ℕ → List ℕ → ℕ → List ℕ
-walkLeft net state log n = ifFit (examineLog net state log) (left net (walked net state (eventsPart log) n .state) state) (λ why. state)
+unfoldable pub walkLeft : List ℕ → List ℕ → List ℕ → ℕ → Bool → List ℕ
+walkLeft net state log n started = ifFit (examineLog net state log) (left net (walked net started state (eventsPart log) n .state) state) (λ why. state)
 
 -- A STEP OF A LOG
 

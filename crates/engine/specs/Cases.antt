@@ -2,6 +2,7 @@
 -- 01's other examples of calls. The same cases without bytes are in the model's Cases.antt.
 -- Assumes nothing.
 use mathlib.Core.Path.{_≡_}
+use mathlib.Core.Bool.{true, false}
 use mathlib.Core.List.{List, [], _∷_, _++_}
 use Prim.Native.Nat.{ℕ}
 use lib.ListN.{length, set, replicate, take, drop}
@@ -14,6 +15,7 @@ use Rattle.engine.specs.Calls.{degreeTold, owedTold, runTold, runLeft, w
 
 -- WHAT A CASE IS
 
+-- Each begins with no start made.
 -- the run call: the state's buffer, the log, what is told, the buffer left, and the standing of the state in that
 -- the event call and the back call: the state's buffer, the event's two bytes, the number told, the buffer left
 pub data Case : Type 0 where
@@ -24,11 +26,11 @@ pub data Case : Type 0 where
 -- the call answers so, for the children's row net
 abbrev pub Holds : Case → Type 0
 Holds (runs state log told left standing) =
-    (runTold rowNet state log ≡ told) × (runLeft rowNet state log ≡ left) × (owedTold rowNet left .standing ≡ standing)
+    (runTold rowNet state log false ≡ told) × (runLeft rowNet state log false ≡ left) × (owedTold rowNet left .standing ≡ standing)
 Holds (does state first second number left) =
-    (eventTold rowNet state first second ≡ saysEvent number 0 noPlace) × (eventLeft rowNet state first second ≡ left)
+    (eventTold rowNet state first second false ≡ saysEvent number 0 noPlace) × (eventLeft rowNet state first second false ≡ left)
 Holds (undoes state first second number left) =
-    (backTold rowNet state first second ≡ says number 0) × (backLeft rowNet state first second ≡ left)
+    (backTold rowNet state first second false ≡ says number 0) × (backLeft rowNet state first second false ≡ left)
 
 -- every case of a table holds
 unfoldable pub AllHold : List Case → Type 0
@@ -85,18 +87,18 @@ bytesBehind = 0xC0 ∷ 0xFF ∷ 0xEE ∷ []
 -- K1 to K12, in order
 unfoldable pub cases : List Case
 cases =
-    runs rowState rowLog (saysRun 0 5 5 1 noPlace) filled 4
-    ∷ runs rowState (log 0x07 (0x00 ∷ 0x00 ∷ [])) (saysRun 18 0 0 0 noPlace) rowState 1
+    runs rowState rowLog (saysRun 0 5 5 1 noPlace true) filled 4
+    ∷ runs rowState (log 0x07 (0x00 ∷ 0x00 ∷ [])) (saysRun 18 0 0 0 noPlace false) rowState 1
     -- the buffer is longer than the state
-    ∷ runs (rowState ++ bytesBehind) (log 0x0D (0x01 ∷ 0x00 ∷ 0x00 ∷ 0x00 ∷ 0x00 ∷ 0x00 ∷ 0x00 ∷ 0x00 ∷ [])) (saysRun 0 4 4 3 noPlace)
+    ∷ runs (rowState ++ bytesBehind) (log 0x0D (0x01 ∷ 0x00 ∷ 0x00 ∷ 0x00 ∷ 0x00 ∷ 0x00 ∷ 0x00 ∷ 0x00 ∷ [])) (saysRun 0 4 4 3 noPlace false)
     (rowStateWith noMarks atAge3 noCounts ++ bytesBehind) 2
-    ∷ runs rowState (log 0x0F (0x01 ∷ 0x00 ∷ 0x00 ∷ 0x00 ∷ 0x00 ∷ 0x00 ∷ 0x00 ∷ 0x00 ∷ 0x00 ∷ 0x00 ∷ [])) (saysRun 19 4 4 3 noPlace)
+    ∷ runs rowState (log 0x0F (0x01 ∷ 0x00 ∷ 0x00 ∷ 0x00 ∷ 0x00 ∷ 0x00 ∷ 0x00 ∷ 0x00 ∷ 0x00 ∷ 0x00 ∷ [])) (saysRun 19 4 4 3 noPlace false)
     (rowStateWith noMarks atAge3 noCounts) 2
-    ∷ runs rowState (log 0x09 (0x01 ∷ 0x00 ∷ 0x41 ∷ 0x00 ∷ [])) (saysRun 15 1 1 0 noPlace) (rowStateWith noMarks atAge0 noCounts) 3
-    ∷ runs rowState (log 0x0B (0x01 ∷ 0x00 ∷ 0x00 ∷ 0x00 ∷ 0x41 ∷ 0x02 ∷ [])) (saysRun 16 2 2 1 noPlace) (rowStateWith noMarks atAge1 noCounts) 3
-    ∷ runs rowState (log 0x0D (0x01 ∷ 0x00 ∷ 0x00 ∷ 0x00 ∷ 0x41 ∷ 0x01 ∷ 0x00 ∷ 0x00 ∷ [])) (saysRun 18 3 3 1 noPlace)
+    ∷ runs rowState (log 0x09 (0x01 ∷ 0x00 ∷ 0x41 ∷ 0x00 ∷ [])) (saysRun 15 1 1 0 noPlace true) (rowStateWith noMarks atAge0 noCounts) 3
+    ∷ runs rowState (log 0x0B (0x01 ∷ 0x00 ∷ 0x00 ∷ 0x00 ∷ 0x41 ∷ 0x02 ∷ [])) (saysRun 16 2 2 1 noPlace false) (rowStateWith noMarks atAge1 noCounts) 3
+    ∷ runs rowState (log 0x0D (0x01 ∷ 0x00 ∷ 0x00 ∷ 0x00 ∷ 0x41 ∷ 0x01 ∷ 0x00 ∷ 0x00 ∷ [])) (saysRun 18 3 3 1 noPlace false)
     (rowStateWith (marks 0x00 0x00 0x00 0x01 0x00 0x00) noCounts noCounts) 1
-    ∷ runs rowState (log 0x11 (0x01 ∷ 0x00 ∷ 0x00 ∷ 0x00 ∷ 0x41 ∷ 0x01 ∷ 0x02 ∷ 0x00 ∷ 0x42 ∷ 0x00 ∷ 0x00 ∷ 0x00 ∷ [])) (saysRun 20 5 5 1 noPlace)
+    ∷ runs rowState (log 0x11 (0x01 ∷ 0x00 ∷ 0x00 ∷ 0x00 ∷ 0x41 ∷ 0x01 ∷ 0x02 ∷ 0x00 ∷ 0x42 ∷ 0x00 ∷ 0x00 ∷ 0x00 ∷ [])) (saysRun 20 5 5 1 noPlace true)
     filled 4
     ∷ undoes filled 0x42 0x00 0 (rowStateWith noMarks noCounts atAge0)
     ∷ undoes rowState 0x00 0x00 18 rowState
@@ -122,6 +124,16 @@ overdue = rowStateWith noMarks noCounts atAge1
 abbrev fullPlace0 : List ℕ
 fullPlace0 = rowStateWith (marks 0xFF 0xFF 0x00 0x00 0x00 0x00) atAge0 noCounts
 
+-- a token in place 0, and a firing of transition 0 at age 3, its lfd; at age 1; and, the token taken, at ages 0 and 1
+abbrev lateRow : List ℕ
+lateRow = rowStateWith (marks 0x00 0x01 0x00 0x00 0x00 0x00) atAge3 noCounts
+
+abbrev earlyRow : List ℕ
+earlyRow = rowStateWith (marks 0x00 0x01 0x00 0x00 0x00 0x00) atAge1 noCounts
+
+abbrev atAges01 : List ℕ
+atAges01 = counts 0x00 0x01 0x00 0x01 0x00 0x00 0x00 0x00
+
 -- a net whose transition 1 has lfd 64, and a log of version 2
 abbrev longNet : List ℕ
 longNet = set rowNet 22 64
@@ -146,17 +158,17 @@ pub record Further : Type 0 where
   pub good-net : netTold rowNet ≡ says 0 0
   pub good-state : stateTold rowNet rowState ≡ says 0 0
   -- of several faults the first is told: of the net, and then of the state, and then of the log, and then 22
-  pub net-first : (runTold longNet [] [] ≡ saysRun 4 1 0 0 noPlace) × (walkTold longNet [] [] 1 ≡ saysWalk 4 1 0 0)
-  pub state-next : (runTold rowNet overdue [] ≡ saysRun 9 1 0 0 noPlace) × (runLeft rowNet overdue [] ≡ overdue)
-  pub log-next : (runTold rowNet rowState newLog ≡ saysRun 10 0 0 0 noPlace) × (runLeft rowNet rowState newLog ≡ rowState)
-  pub log-before-22 : (walkTold rowNet filled newLog 6 ≡ saysWalk 10 0 0 0) × (walkLeft rowNet filled newLog 6 ≡ filled)
+  pub net-first : (runTold longNet [] [] false ≡ saysRun 4 1 0 0 noPlace false) × (walkTold longNet [] [] 1 false ≡ saysWalk 4 1 0 0)
+  pub state-next : (runTold rowNet overdue [] false ≡ saysRun 9 1 0 0 noPlace false) × (runLeft rowNet overdue [] false ≡ overdue)
+  pub log-next : (runTold rowNet rowState newLog false ≡ saysRun 10 0 0 0 noPlace false) × (runLeft rowNet rowState newLog false ≡ rowState)
+  pub log-before-22 : (walkTold rowNet filled newLog 6 false ≡ saysWalk 10 0 0 0) × (walkLeft rowNet filled newLog 6 false ≡ filled)
   -- steps with no events, each at its own place; only the pair 0, 0 cuts
   pub empty-first : stepTold cutLog 0 ≡ saysStep 0 0 5 0
   pub uncut : stepTold cutLog 1 ≡ saysStep 0 0 7 2
   pub empty-last : stepTold cutLog 2 ≡ saysStep 0 0 11 0
   pub step-of-no-log : stepTold newLog 0 ≡ saysStep 10 0 0 0
   -- start 0 taken back with place 0 at 65,535 and one count at age 0: 25
-  pub full-back : (backTold rowNet fullPlace0 0x01 0x00 ≡ says 25 0) × (backLeft rowNet fullPlace0 0x01 0x00 ≡ fullPlace0)
+  pub full-back : (backTold rowNet fullPlace0 0x01 0x00 false ≡ says 25 0) × (backLeft rowNet fullPlace0 0x01 0x00 false ≡ fullPlace0)
   -- step 0 of the log is 01 00; step 1 is 41 01 02 00 42 00; step 2 is refused by 23
   pub step-0 : (stepTold rowLog 0 ≡ saysStep 0 0 5 2) × (partOf (stepTold rowLog 0) ≡ 0x01 ∷ 0x00 ∷ [])
   pub step-1 : (stepTold rowLog 1 ≡ saysStep 0 0 9 6) × (partOf (stepTold rowLog 1) ≡ 0x41 ∷ 0x01 ∷ 0x02 ∷ 0x00 ∷ 0x42 ∷ 0x00 ∷ [])
@@ -165,32 +177,51 @@ pub record Further : Type 0 where
   pub no-net : netTold [] ≡ says 1 0
   pub short-net : netTold (0x01 ∷ 0x00 ∷ 0x00 ∷ 0x00 ∷ 0x06 ∷ 0x01 ∷ []) ≡ says 1 0
   -- a log of 5 bytes, length field 5: accepted, no events
-  pub no-events : (runTold rowNet rowState (log 0x05 []) ≡ saysRun 0 0 0 0 noPlace) × (runLeft rowNet rowState (log 0x05 []) ≡ rowState)
+  pub no-events : (runTold rowNet rowState (log 0x05 []) false ≡ saysRun 0 0 0 0 noPlace false) × (runLeft rowNet rowState (log 0x05 []) false ≡ rowState)
   -- the initial state, over whatever the buffer held; and in a buffer one byte short
   pub initial : (initialTold rowNet (replicate 30 0xAA ++ bytesBehind) ≡ says 0 0)
       × (initialLeft rowNet (replicate 30 0xAA ++ bytesBehind) ≡ rowState ++ bytesBehind)
   pub no-room : (initialTold rowNet (replicate 29 0xAA) ≡ says 7 0) × (initialLeft rowNet (replicate 29 0xAA) ≡ replicate 29 0xAA)
   -- K1's log walked back whole, over its last two events, and over more than it has
-  pub whole-back : (walkTold rowNet filled rowLog 5 ≡ saysWalk 0 0 5 1) × (walkLeft rowNet filled rowLog 5 ≡ rowState)
-  pub two-back : (walkTold rowNet filled rowLog 2 ≡ saysWalk 0 3 2 0)
-      × (walkLeft rowNet filled rowLog 2 ≡ rowStateWith (marks 0x00 0x00 0x00 0x01 0x00 0x00) noCounts noCounts)
-  pub six-back : (walkTold rowNet filled rowLog 6 ≡ saysWalk 22 0 0 0) × (walkLeft rowNet filled rowLog 6 ≡ filled)
+  pub whole-back : (walkTold rowNet filled rowLog 5 false ≡ saysWalk 0 0 5 1) × (walkLeft rowNet filled rowLog 5 false ≡ rowState)
+  pub two-back : (walkTold rowNet filled rowLog 2 false ≡ saysWalk 0 3 2 0)
+      × (walkLeft rowNet filled rowLog 2 false ≡ rowStateWith (marks 0x00 0x00 0x00 0x01 0x00 0x00) noCounts noCounts)
+  pub six-back : (walkTold rowNet filled rowLog 6 false ≡ saysWalk 22 0 0 0) × (walkLeft rowNet filled rowLog 6 false ≡ filled)
   -- a walk that stops: the last event cannot have led to the initial state
-  pub none-back : (walkTold rowNet rowState rowLog 5 ≡ saysWalk 26 4 0 0) × (walkLeft rowNet rowState rowLog 5 ≡ rowState)
+  pub none-back : (walkTold rowNet rowState rowLog 5 false ≡ saysWalk 26 4 0 0) × (walkLeft rowNet rowState rowLog 5 false ≡ rowState)
   -- and on its way: start 1, a tick, walked back from where transition 0 has age 1. The tick is taken back, and start 1 left no firing
-  pub one-back : (walkTold rowNet (rowStateWith noMarks atAge1 noCounts) (log 0x09 (0x02 ∷ 0x00 ∷ 0x00 ∷ 0x00 ∷ [])) 2 ≡ saysWalk 24 0 1 1)
-      × (walkLeft rowNet (rowStateWith noMarks atAge1 noCounts) (log 0x09 (0x02 ∷ 0x00 ∷ 0x00 ∷ 0x00 ∷ [])) 2 ≡ rowStateWith noMarks atAge0 noCounts)
+  pub one-back : (walkTold rowNet (rowStateWith noMarks atAge1 noCounts) (log 0x09 (0x02 ∷ 0x00 ∷ 0x00 ∷ 0x00 ∷ [])) 2 false ≡ saysWalk 24 0 1 1)
+      × (walkLeft rowNet (rowStateWith noMarks atAge1 noCounts) (log 0x09 (0x02 ∷ 0x00 ∷ 0x00 ∷ 0x00 ∷ [])) 2 false ≡ rowStateWith noMarks atAge0 noCounts)
+  -- the children's row net with a second token in place 0 at tick 3, when the first load must end: 29, and behind that end it starts; behind a
+  -- start the end comes too late, 28, done and taken back, and where the start is given by the caller
+  pub old-end-first : (runTold rowNet lateRow (log 0x07 (0x01 ∷ 0x00 ∷ [])) false ≡ saysRun 29 0 0 0 noPlace false)
+      × (runLeft rowNet lateRow (log 0x07 (0x01 ∷ 0x00 ∷ [])) false ≡ lateRow)
+  pub then-the-start : runTold rowNet lateRow (log 0x09 (0x41 ∷ 0x03 ∷ 0x01 ∷ 0x00 ∷ [])) false ≡ saysRun 0 2 2 0 noPlace true
+  pub old-end-late : (runTold rowNet earlyRow (log 0x09 (0x01 ∷ 0x00 ∷ 0x41 ∷ 0x01 ∷ [])) false ≡ saysRun 28 1 1 0 noPlace true)
+      × (runLeft rowNet earlyRow (log 0x09 (0x01 ∷ 0x00 ∷ 0x41 ∷ 0x01 ∷ [])) false ≡ rowStateWith noMarks atAges01 noCounts)
+  pub late-given : eventTold rowNet earlyRow 0x41 0x01 true ≡ saysEvent 28 0 noPlace
+  pub late-back : (backTold rowNet (rowStateWith (marks 0x00 0x00 0x00 0x01 0x00 0x00) noCounts noCounts) 0x41 0x01 true ≡ says 28 0)
+      × (backTold rowNet (rowStateWith (marks 0x00 0x00 0x00 0x01 0x00 0x00) noCounts noCounts) 0x41 0x01 false ≡ says 0 0)
+  -- walked back: the start in front of the walked event sets the fact, a tick in front clears it, and else it is the given one
+  pub set-in-front : walkTold rowNet (rowStateWith (marks 0x00 0x00 0x00 0x01 0x00 0x00) noCounts noCounts) (log 0x09 (0x01 ∷ 0x00 ∷ 0x41 ∷ 0x01 ∷ [])) 1 false
+      ≡ saysWalk 28 1 0 0
+  pub cleared-in-front : walkTold rowNet (rowStateWith (marks 0x00 0x00 0x00 0x01 0x00 0x00) noCounts noCounts) (log 0x09 (0x00 ∷ 0x00 ∷ 0x41 ∷ 0x01 ∷ [])) 1 true
+      ≡ saysWalk 0 1 1 0
+  pub given-in-front : walkTold rowNet (rowStateWith (marks 0x00 0x00 0x00 0x01 0x00 0x00) noCounts noCounts) (log 0x07 (0x41 ∷ 0x01 ∷ [])) 1 true
+      ≡ saysWalk 28 0 0 0
+  -- a run that is refused by 10 tells no start, whatever was given
+  pub no-fact : runTold rowNet rowState newLog true ≡ saysRun 10 0 0 0 noPlace false
   -- a state with a count above its transition's lfd
   pub overdue-state : stateTold rowNet overdue ≡ says 9 1
-  pub overdue-event : (eventTold rowNet overdue 0x00 0x00 ≡ saysEvent 9 1 noPlace) × (eventLeft rowNet overdue 0x00 0x00 ≡ overdue)
+  pub overdue-event : (eventTold rowNet overdue 0x00 0x00 false ≡ saysEvent 9 1 noPlace) × (eventLeft rowNet overdue 0x00 0x00 false ≡ overdue)
   -- start 1, which takes 9 tokens, finds none in place 1; and one, in a run that has done three events
-  pub short-event : (eventTold dearNet rowState 0x02 0x00 ≡ saysEvent 13 0 (shortAt 1 9)) × (eventLeft dearNet rowState 0x02 0x00 ≡ rowState)
-  pub short-run : (runTold dearNet rowState rowLog ≡ saysRun 13 3 3 1 (shortAt 1 8))
-      × (runLeft dearNet rowState rowLog ≡ rowStateWith (marks 0x00 0x00 0x00 0x01 0x00 0x00) noCounts noCounts)
+  pub short-event : (eventTold dearNet rowState 0x02 0x00 false ≡ saysEvent 13 0 (shortAt 1 9)) × (eventLeft dearNet rowState 0x02 0x00 false ≡ rowState)
+  pub short-run : (runTold dearNet rowState rowLog false ≡ saysRun 13 3 3 1 (shortAt 1 8) false)
+      × (runLeft dearNet rowState rowLog false ≡ rowStateWith (marks 0x00 0x00 0x00 0x01 0x00 0x00) noCounts noCounts)
   -- transition 0 takes 3, 0 and 255: place 0 has 1 token, and so it is told and not place 2
-  pub short-lowest : eventTold greedyNet rowState 0x01 0x00 ≡ saysEvent 13 0 (shortAt 0 2)
+  pub short-lowest : eventTold greedyNet rowState 0x01 0x00 false ≡ saysEvent 13 0 (shortAt 0 2)
   -- with 3 tokens there, place 2 is told
-  pub short-last : eventTold greedyNet (rowStateWith (marks 0x00 0x03 0x00 0x00 0x00 0x00) noCounts noCounts) 0x01 0x00
+  pub short-last : eventTold greedyNet (rowStateWith (marks 0x00 0x03 0x00 0x00 0x00 0x00) noCounts noCounts) 0x01 0x00 false
       ≡ saysEvent 13 0 (shortAt 2 255)
   -- the degrees in the initial state, of a third transition, and in no state
   pub degree-0 : degreeTold rowNet rowState 0 ≡ saysDegree 0 0 1

@@ -7,6 +7,8 @@ use mathlib.Core.Logic.{_↔_}
 use mathlib.Core.List.{List}
 use Prim.Native.Nat.{ℕ}
 use denote.Ref.{RefT, now}
+use Rattle.model.specs.Net.{Net}
+use Rattle.model.specs.Order.{StepOrder}
 use Rattle.forms.specs.declared.fault.Checked.the-variants as checked
 use Rattle.forms.specs.Word.{Bytes}
 use Rattle.forms.specs.Logs.{IsLog, checkLog}
@@ -27,6 +29,8 @@ pub record OnBytes : Type 0 where
   -- demands 2 and 3, of a net and a state that got past the checks
   pub demand-2 : (net b : List ℕ) → Bytes net → Bytes b → Passes (examineState net b) → Demand2 net b
   pub demand-3 : (net b : List ℕ) → Bytes b → Passes (examineState net b) → Demand3 net b
+  -- and so a step of an accepted log is ordered as Section 2.2 of document 004 has it
+  pub step-order : (N : Net) → StepOrder N
   -- the initial state, and the steps of a log
   pub initial : (net b : List ℕ) → Bytes net → Passes (examineNet net) → InitialGiven net b (initialTold net b) (initialLeft net b)
   pub log-good : (log : List ℕ) → (checkLog log ≡ checked.Good) ↔ IsLog log

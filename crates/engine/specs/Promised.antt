@@ -4,6 +4,7 @@
 -- so no premise is left open, and what the demands say of several calls in a row holds too (`Fit`).
 -- Assumes nothing.
 use mathlib.Core.Path.{_≡_}
+use mathlib.Core.Bool.{Bool, false}
 use mathlib.Core.List.{List}
 use Prim.Native.Nat.{ℕ}
 use Rattle.forms.specs.declared.fault.Fault.{Fault}
@@ -59,7 +60,7 @@ abbrev pub TellsEventFault : EventTold → Fault → Type 0
 TellsEventFault r why = r ≡ saysEvent (numberOfFault why) (indexOfFault why) noPlace
 
 abbrev pub TellsRunFault : RunTold → Fault → Type 0
-TellsRunFault r why = r ≡ saysRun (numberOfFault why) (indexOfFault why) 0 0 noPlace
+TellsRunFault r why = r ≡ saysRun (numberOfFault why) (indexOfFault why) 0 0 noPlace false
 
 abbrev pub TellsWalkFault : WalkTold → Fault → Type 0
 TellsWalkFault r why = r ≡ saysWalk (numberOfFault why) (indexOfFault why) 0 0
@@ -75,11 +76,13 @@ CheckStatePromise net b r = OfState net b (TellsFault r) (r ≡ says 0 0)
 abbrev pub InitialPromise : List ℕ → List ℕ → Verdict → List ℕ → Type 0
 InitialPromise net b r b′ = OfNet net (λ why. TellsFault r why × (b′ ≡ b)) (InitialGiven net b r b′)
 
-abbrev pub EventPromise : List ℕ → List ℕ → ℕ → ℕ → EventTold → List ℕ → Type 0
-EventPromise net b first second r b′ = OfState net b (λ why. TellsEventFault r why × (b′ ≡ b)) (EventDone net b first second r b′)
+abbrev pub EventPromise : List ℕ → List ℕ → ℕ → ℕ → Bool → EventTold → List ℕ → Type 0
+EventPromise net b first second started r b′ =
+    OfState net b (λ why. TellsEventFault r why × (b′ ≡ b)) (EventDone net b first second started r b′)
 
-abbrev pub BackPromise : List ℕ → List ℕ → ℕ → ℕ → Verdict → List ℕ → Type 0
-BackPromise net b first second r b′ = OfState net b (λ why. TellsFault r why × (b′ ≡ b)) (EventBack net b first second r b′)
+abbrev pub BackPromise : List ℕ → List ℕ → ℕ → ℕ → Bool → Verdict → List ℕ → Type 0
+BackPromise net b first second started r b′ =
+    OfState net b (λ why. TellsFault r why × (b′ ≡ b)) (EventBack net b first second started r b′)
 
 abbrev pub DegreePromise : List ℕ → List ℕ → ℕ → DegreeTold → Type 0
 DegreePromise net b t r = OfState net b (λ why. r ≡ saysDegree (numberOfFault why) (indexOfFault why) 0) (DegreeGiven net b t r)
@@ -88,11 +91,11 @@ abbrev pub OwedPromise : List ℕ → List ℕ → OwedTold → Type 0
 OwedPromise net b r =
     OfState net b (λ why. r ≡ saysOwed (numberOfFault why) (indexOfFault why) (setSays 0 0 0) (setSays 0 0 0) 0) (OwedGiven net b r)
 
-abbrev pub RunPromise : List ℕ → List ℕ → List ℕ → RunTold → List ℕ → Type 0
-RunPromise net b log r b′ = OfLog net b log (λ why. TellsRunFault r why × (b′ ≡ b)) (LogRun net b log r b′)
+abbrev pub RunPromise : List ℕ → List ℕ → List ℕ → Bool → RunTold → List ℕ → Type 0
+RunPromise net b log started r b′ = OfLog net b log (λ why. TellsRunFault r why × (b′ ≡ b)) (LogRun net b log started r b′)
 
-abbrev pub WalkPromise : List ℕ → List ℕ → List ℕ → ℕ → WalkTold → List ℕ → Type 0
-WalkPromise net b log n r b′ = OfLog net b log (λ why. TellsWalkFault r why × (b′ ≡ b)) (LogBack net b log n r b′)
+abbrev pub WalkPromise : List ℕ → List ℕ → List ℕ → ℕ → Bool → WalkTold → List ℕ → Type 0
+WalkPromise net b log n started r b′ = OfLog net b log (λ why. TellsWalkFault r why × (b′ ≡ b)) (LogBack net b log n started r b′)
 
 abbrev pub StepPromise : List ℕ → ℕ → StepTold → Type 0
 StepPromise log k r = OfLogAlone log (λ why. r ≡ saysStep (numberOfFault why) 0 0 0) (StepGiven log k r)

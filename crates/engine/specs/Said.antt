@@ -1,6 +1,7 @@
 -- What a call tells, field by field, as the statements of Demands, Steps, Promised and Cases write it. The helpers of Answers, by which the
 -- contracts say what is computed, are not used there.
 -- Assumes nothing.
+use mathlib.Core.Bool.{Bool}
 use Prim.Native.Nat.{ℕ}
 use Rattle.model.specs.declared.answer.Short.{Short}
 use Rattle.owed.specs.declared.report.OwedSet.{OwedSet}
@@ -25,8 +26,9 @@ noPlace = shortAt 0 0
 abbrev pub saysEvent : ℕ → ℕ → Short → EventTold
 saysEvent number index short = record { number = number; index = index; short = short }
 
-abbrev pub saysRun : ℕ → ℕ → ℕ → ℕ → Short → RunTold
-saysRun number index done ticks short = record { number = number; index = index; done = done; ticks = ticks; short = short }
+abbrev pub saysRun : ℕ → ℕ → ℕ → ℕ → Short → Bool → RunTold
+saysRun number index done ticks short started =
+    record { number = number; index = index; done = done; ticks = ticks; short = short; started = started }
 
 abbrev pub saysWalk : ℕ → ℕ → ℕ → ℕ → WalkTold
 saysWalk number index done ticks = record { number = number; index = index; done = done; ticks = ticks }

@@ -17,6 +17,7 @@ use logs::steps;
 use logs::steps::Span;
 use model::answer::Refusal;
 use moves::event;
+use moves::order::Step;
 use owed::degree;
 use owed::report;
 use runs::run;
@@ -67,26 +68,40 @@ pub fn initial(net: &[u8], state: &mut [u8]) -> Verdict
     }
 }
 
-// Does one event, given by its two bytes: 1 to 6, 8, 9, 11 to 20.
-pub fn event(net: &[u8], state: &mut [u8], first: u8, second: u8) -> EventTold
-    ensures { λ r. ⌜ r ≡ eventTold (now (net .entry)) (now (state .entry)) first second ⌝ }
-    ensures { λ _. ⌜ now (state .exit) ≡ eventLeft (now (net .entry)) (now (state .entry)) first second ⌝ }
-    ensures { λ r. ⌜ EventPromise (now (net .entry)) (now (state .entry)) first second r (now (state .exit)) ⌝ }
+// Does one event, given by its two bytes, where a start has happened before it in its step, or not: 1 to 6, 8, 9, 11 to 20, 28, 29.
+pub fn event(net: &[u8], state: &mut [u8], first: u8, second: u8, started: bool) -> EventTold
+    ensures { λ r. ⌜ r ≡ eventTold (now (net .entry)) (now (state .entry)) first second started ⌝ }
+    ensures { λ _. ⌜ now (state .exit) ≡ eventLeft (now (net .entry)) (now (state .entry)) first second started ⌝ }
+    ensures { λ r. ⌜ EventPromise (now (net .entry)) (now (state .entry)) first second started r (now (state .exit)) ⌝ }
 {
     match examine::examine_state(net, state) {
-        Examined::Fit(shape) => EventTold::answered(event::apply(net, shape, state, first, second)),
+        Examined::Fit(shape) => EventTold::answered(event::apply(
+            net,
+            shape,
+            state,
+            Step::given(started),
+            first,
+            second,
+        )),
         Examined::Unfit(fault) => EventTold::unfit(fault),
     }
 }
 
-// Takes one event back: 1 to 6, 8, 9, 11, 12, 15, 18, 20, 21, 24 to 27.
-pub fn back(net: &[u8], state: &mut [u8], first: u8, second: u8) -> Verdict
-    ensures { λ r. ⌜ r ≡ backTold (now (net .entry)) (now (state .entry)) first second ⌝ }
-    ensures { λ _. ⌜ now (state .exit) ≡ backLeft (now (net .entry)) (now (state .entry)) first second ⌝ }
-    ensures { λ r. ⌜ BackPromise (now (net .entry)) (now (state .entry)) first second r (now (state .exit)) ⌝ }
+// Takes one event back, where a start had happened before it in its step, or not: 1 to 6, 8, 9, 11, 12, 15, 18, 20, 21, 24 to 29.
+pub fn back(net: &[u8], state: &mut [u8], first: u8, second: u8, started: bool) -> Verdict
+    ensures { λ r. ⌜ r ≡ backTold (now (net .entry)) (now (state .entry)) first second started ⌝ }
+    ensures { λ _. ⌜ now (state .exit) ≡ backLeft (now (net .entry)) (now (state .entry)) first second started ⌝ }
+    ensures { λ r. ⌜ BackPromise (now (net .entry)) (now (state .entry)) first second started r (now (state .exit)) ⌝ }
 {
     match examine::examine_state(net, state) {
-        Examined::Fit(shape) => Verdict::answered(event::back(net, shape, state, first, second)),
+        Examined::Fit(shape) => Verdict::answered(event::back(
+            net,
+            shape,
+            state,
+            Step::given(started),
+            first,
+            second,
+        )),
         Examined::Unfit(fault) => Verdict::unfit(fault),
     }
 }
@@ -126,26 +141,35 @@ pub fn owed(net: &[u8], state: &[u8]) -> OwedTold
     }
 }
 
-// Runs a log: 1 to 6, 8 to 20. The events follow the fifth byte of the log.
-pub fn run(net: &[u8], state: &mut [u8], log: &[u8]) -> RunTold
-    ensures { λ r. ⌜ r ≡ runTold (now (net .entry)) (now (state .entry)) (now (log .entry)) ⌝ }
-    ensures { λ _. ⌜ now (state .exit) ≡ runLeft (now (net .entry)) (now (state .entry)) (now (log .entry)) ⌝ }
-    ensures { λ r. ⌜ RunPromise (now (net .entry)) (now (state .entry)) (now (log .entry)) r (now (state .exit)) ⌝ }
+// Runs a log, where a start has happened before its first event in its step, or not: 1 to 6, 8 to 20, 28, 29. The events follow the fifth byte
+// of the log.
+pub fn run(net: &[u8], state: &mut [u8], log: &[u8], started: bool) -> RunTold
+    ensures { λ r. ⌜ r ≡ runTold (now (net .entry)) (now (state .entry)) (now (log .entry)) started ⌝ }
+    ensures { λ _. ⌜ now (state .exit) ≡ runLeft (now (net .entry)) (now (state .entry)) (now (log .entry)) started ⌝ }
+    ensures { λ r. ⌜ RunPromise (now (net .entry)) (now (state .entry)) (now (log .entry)) started r (now (state .exit)) ⌝ }
 {
     match examine::examine_log(net, state, log) {
-        Examined::Fit(shape) => run::run(net, shape, state, &log[places::EVENTS_AT..]),
+        Examined::Fit(shape) => run::run(net, shape, state, &log[places::EVENTS_AT..], started),
         Examined::Unfit(fault) => RunTold::unfit(fault),
     }
 }
 
-// Walks the last n events of a log back: 1 to 6, 8 to 12, 15, 18, 20 to 22, 24 to 27.
-pub fn walk(net: &[u8], state: &mut [u8], log: &[u8], n: usize) -> WalkTold
-    ensures { λ r. ⌜ r ≡ walkTold (now (net .entry)) (now (state .entry)) (now (log .entry)) n ⌝ }
-    ensures { λ _. ⌜ now (state .exit) ≡ walkLeft (now (net .entry)) (now (state .entry)) (now (log .entry)) n ⌝ }
-    ensures { λ r. ⌜ WalkPromise (now (net .entry)) (now (state .entry)) (now (log .entry)) n r (now (state .exit)) ⌝ }
+// Walks the last n events of a log back, where a start had happened before the first of them all in its step, or not: 1 to 6, 8 to 12, 15, 18,
+// 20 to 22, 24 to 29.
+pub fn walk(net: &[u8], state: &mut [u8], log: &[u8], n: usize, started: bool) -> WalkTold
+    ensures { λ r. ⌜ r ≡ walkTold (now (net .entry)) (now (state .entry)) (now (log .entry)) n started ⌝ }
+    ensures { λ _. ⌜ now (state .exit) ≡ walkLeft (now (net .entry)) (now (state .entry)) (now (log .entry)) n started ⌝ }
+    ensures { λ r. ⌜ WalkPromise (now (net .entry)) (now (state .entry)) (now (log .entry)) n started r (now (state .exit)) ⌝ }
 {
     match examine::examine_log(net, state, log) {
-        Examined::Fit(shape) => walk::walk(net, shape, state, &log[places::EVENTS_AT..], n),
+        Examined::Fit(shape) => walk::walk(
+            net,
+            shape,
+            state,
+            &log[places::EVENTS_AT..],
+            n,
+            started,
+        ),
         Examined::Unfit(fault) => WalkTold::unfit(fault),
     }
 }

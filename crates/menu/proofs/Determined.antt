@@ -39,13 +39,13 @@ initial-leaves κs args x y s s′ p q = p .1 .0 ∙ sym (q .1 .0)
 pub check-state-tells : LeavesOne 3 check-state-kinds.ps check-state-kinds.r check-state.Learnt (λ κs s. now (s .1 .1 .0))
 check-state-tells κs args x y s s′ p q = p .0 ∙ sym (q .0)
 
-pub event-tells : LeavesOne 3 event-kinds.ps event-kinds.r event.Learnt (λ κs s. now (s .1 .1 .1 .1 .0))
+pub event-tells : LeavesOne 3 event-kinds.ps event-kinds.r event.Learnt (λ κs s. now (s .1 .1 .1 .1 .1 .0))
 event-tells κs args x y s s′ p q = p .0 ∙ sym (q .0)
 
 pub event-leaves : LeavesOne 3 event-kinds.ps event-kinds.r event.Learnt (λ κs s. now (s .1 .0))
 event-leaves κs args x y s s′ p q = p .1 .0 ∙ sym (q .1 .0)
 
-pub back-tells : LeavesOne 3 back-kinds.ps back-kinds.r back.Learnt (λ κs s. now (s .1 .1 .1 .1 .0))
+pub back-tells : LeavesOne 3 back-kinds.ps back-kinds.r back.Learnt (λ κs s. now (s .1 .1 .1 .1 .1 .0))
 back-tells κs args x y s s′ p q = p .0 ∙ sym (q .0)
 
 pub back-leaves : LeavesOne 3 back-kinds.ps back-kinds.r back.Learnt (λ κs s. now (s .1 .0))
@@ -57,13 +57,13 @@ degree-tells κs args x y s s′ p q = p .0 ∙ sym (q .0)
 pub owed-tells : LeavesOne 3 owed-kinds.ps owed-kinds.r owed.Learnt (λ κs s. now (s .1 .1 .0))
 owed-tells κs args x y s s′ p q = p .0 ∙ sym (q .0)
 
-pub run-tells : LeavesOne 4 run-kinds.ps run-kinds.r run.Learnt (λ κs s. now (s .1 .1 .1 .0))
+pub run-tells : LeavesOne 4 run-kinds.ps run-kinds.r run.Learnt (λ κs s. now (s .1 .1 .1 .1 .0))
 run-tells κs args x y s s′ p q = p .0 ∙ sym (q .0)
 
 pub run-leaves : LeavesOne 4 run-kinds.ps run-kinds.r run.Learnt (λ κs s. now (s .1 .0))
 run-leaves κs args x y s s′ p q = p .1 .0 ∙ sym (q .1 .0)
 
-pub walk-tells : LeavesOne 4 walk-kinds.ps walk-kinds.r walk.Learnt (λ κs s. now (s .1 .1 .1 .1 .0))
+pub walk-tells : LeavesOne 4 walk-kinds.ps walk-kinds.r walk.Learnt (λ κs s. now (s .1 .1 .1 .1 .1 .0))
 walk-tells κs args x y s s′ p q = p .0 ∙ sym (q .0)
 
 pub walk-leaves : LeavesOne 4 walk-kinds.ps walk-kinds.r walk.Learnt (λ κs s. now (s .1 .0))

@@ -4,8 +4,9 @@ use mathlib.Core.Path.{refl}
 use Rattle.model.specs.Tab.{tab, all, largest, least, howMany, lowest, one}
 use Rattle.model.specs.Net.{width, tokens, count, build}
 use Rattle.model.specs.Rules.{lackingPlace, enabled?, short, no-start-owed?, no-end-owed?, nothing-running?, timely?, has-room?, covers?, none-fresh?}
+use Rattle.model.specs.Rules.{may-end?, owes-no-old-end?, no-old-end-owed?}
 use Rattle.model.specs.Rules.{older, started, ended, ticked, unstarted, unended, unticked, apply, back, times, degree}
-use Rattle.model.specs.Run.{ticksIn, inTurn, run, walkBack, walk}
+use Rattle.model.specs.Run.{ticksIn, startedAfter, turns, inTurn, run, walkBack, walk}
 use Rattle.model.specs.Owed.{owes-start?, owes-end?, standingOf, owed}
 use Rattle.forms.specs.Word.{word, word32, blank?, setWord, putWords, putRows}
 use Rattle.forms.specs.Places.{rowAt, countAt, stateLength}
@@ -29,8 +30,8 @@ pub edges : Edges
 unfolding netTold stateTold eventTold degreeTold owedTold runTold runLeft walkTold stepTold pageTold examinePage examineNet examineState examineLog
     checkNet net-head? checkRow some-weight? checkState has-head? none-past? checkLog is-log? begins? checksInTurn
     netOf stateOf eventsIn word word32 blank? setWord putWords putRows rowAt countAt stateLength written startFrom endFrom wordOf
-    page choice ticksIn run walk walkBack inTurn owed owes-start? owes-end? standingOf degree times apply back started ended ticked unstarted unended unticked older
-    lackingPlace enabled? short no-start-owed? no-end-owed? nothing-running? timely? has-room? covers? none-fresh?
+    page choice ticksIn startedAfter turns run walk walkBack inTurn owed owes-start? owes-end? standingOf degree times apply back started ended ticked unstarted unended unticked older
+    lackingPlace enabled? short no-start-owed? no-end-owed? nothing-running? timely? has-room? covers? none-fresh? may-end? owes-no-old-end? no-old-end-owed?
     width tokens count build tab all largest least howMany lowest one
 edges = record {
   net = (refl, refl);
@@ -46,6 +47,9 @@ edges = record {
   run = (refl, refl);
   short-run = refl;
   no-run = refl;
+  late-event = refl;
+  timely-event = refl;
+  late-run = refl;
   walk = refl;
   whole-walk = refl;
   step = refl;

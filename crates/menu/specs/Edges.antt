@@ -2,6 +2,7 @@
 -- numbers: no two can be exchanged in the code and in the definitions together.
 -- Assumes nothing.
 use mathlib.Core.Path.{_≡_}
+use mathlib.Core.Bool.{false}
 use mathlib.Core.List.{List, [], _∷_}
 use Prim.Native.Nat.{ℕ}
 use lib.ListN.{set, replicate}
@@ -9,7 +10,7 @@ use Rattle.forms.specs.Cases.{rowNet, rowState, rowLog}
 use Rattle.owed.specs.Edges.{spent}
 use Rattle.engine.specs.Calls.{netTold, stateTold, eventTold, degreeTold, owedTold, runTold, runLeft, walkTold, stepTold}
 use Rattle.runner.specs.Call.{pageTold}
-use Rattle.menu.specs.Fields.{verdictFields, eventFields, degreeFields, owedFields, runFields, walkFields, stepFields, pageFields}
+use Rattle.menu.specs.Fields.{saidStarted, verdictFields, eventFields, degreeFields, owedFields, runFields, walkFields, stepFields, pageFields}
 
 -- what K1 leaves: a token in place 2, and none elsewhere
 abbrev filled : List ℕ
@@ -26,6 +27,13 @@ filling = set spent 23 1
 abbrev overdue : List ℕ
 overdue = set spent 25 1
 
+-- transition 0 has a count at age 1; and a log that ends it
+abbrev loading : List ℕ
+loading = set spent 17 1
+
+abbrev endLog : List ℕ
+endLog = 0x01 ∷ 0x00 ∷ 0x00 ∷ 0x00 ∷ 0x07 ∷ 0x41 ∷ 0x01 ∷ []
+
 -- place 0 holds 258 tokens
 abbrev rich : List ℕ
 rich = set (set rowState 8 1) 9 2
@@ -38,8 +46,8 @@ pub record Edges : Type 0 where
   -- accepted; and transition 1 with an lfd above 63
   pub net : (verdictFields (netTold rowNet) ≡ 0 ∷ 0 ∷ []) × (verdictFields (netTold (set rowNet 22 64)) ≡ 4 ∷ 1 ∷ [])
   pub state : verdictFields (stateTold rowNet overdue) ≡ 9 ∷ 1 ∷ []
-  pub short-event : eventFields (eventTold dear rowState 0x02 0x00) ≡ 13 ∷ 0 ∷ 1 ∷ 9 ∷ []
-  pub no-event : eventFields (eventTold rowNet overdue 0x02 0x00) ≡ 9 ∷ 1 ∷ 0 ∷ 0 ∷ []
+  pub short-event : eventFields (eventTold dear rowState 0x02 0x00 false) ≡ 13 ∷ 0 ∷ 1 ∷ 9 ∷ []
+  pub no-event : eventFields (eventTold rowNet overdue 0x02 0x00 false) ≡ 9 ∷ 1 ∷ 0 ∷ 0 ∷ []
   pub degree : degreeFields (degreeTold rowNet rich 0) ≡ 0 ∷ 0 ∷ 258 ∷ []
   pub no-degree : degreeFields (degreeTold rowNet overdue 0) ≡ 9 ∷ 1 ∷ 0 ∷ []
   -- both words, how many are set in both, the lowest of both, the standing
@@ -48,11 +56,15 @@ pub record Edges : Type 0 where
   pub at-rest : owedFields (owedTold rowNet filled) ≡ 0 ∷ 0 ∷ 0 ∷ 0 ∷ 0 ∷ 0 ∷ 64 ∷ 64 ∷ 4 ∷ []
   pub no-report : owedFields (owedTold rowNet overdue) ≡ 9 ∷ 1 ∷ 0 ∷ 0 ∷ 0 ∷ 0 ∷ 0 ∷ 0 ∷ 0 ∷ []
   -- K1: five events, one tick; and its last two events walked back, so that three stand done
-  pub run : (runFields (runTold rowNet rowState rowLog) ≡ 0 ∷ 5 ∷ 5 ∷ 1 ∷ 0 ∷ 0 ∷ []) × (runLeft rowNet rowState rowLog ≡ filled)
-  pub short-run : runFields (runTold dear rowState rowLog) ≡ 13 ∷ 3 ∷ 3 ∷ 1 ∷ 1 ∷ 8 ∷ []
-  pub no-run : runFields (runTold rowNet overdue rowLog) ≡ 9 ∷ 1 ∷ 0 ∷ 0 ∷ 0 ∷ 0 ∷ []
-  pub walk : walkFields (walkTold rowNet filled rowLog 2) ≡ 0 ∷ 3 ∷ 2 ∷ 0 ∷ []
-  pub whole-walk : walkFields (walkTold rowNet filled rowLog 5) ≡ 0 ∷ 0 ∷ 5 ∷ 1 ∷ []
+  pub run : (runFields (runTold rowNet rowState rowLog false) ≡ 0 ∷ 5 ∷ 5 ∷ 1 ∷ 0 ∷ 0 ∷ 1 ∷ []) × (runLeft rowNet rowState rowLog false ≡ filled)
+  pub short-run : runFields (runTold dear rowState rowLog false) ≡ 13 ∷ 3 ∷ 3 ∷ 1 ∷ 1 ∷ 8 ∷ 0 ∷ []
+  pub no-run : runFields (runTold rowNet overdue rowLog false) ≡ 9 ∷ 1 ∷ 0 ∷ 0 ∷ 0 ∷ 0 ∷ 0 ∷ []
+  -- behind a start, as the caller says it by any number but 0, the end of age 1 is refused; and the fact stands in the last field alone
+  pub late-event : eventFields (eventTold rowNet loading 0x41 0x01 (saidStarted 2)) ≡ 28 ∷ 0 ∷ 0 ∷ 0 ∷ []
+  pub timely-event : eventFields (eventTold rowNet loading 0x41 0x01 (saidStarted 0)) ≡ 0 ∷ 0 ∷ 0 ∷ 0 ∷ []
+  pub late-run : runFields (runTold rowNet loading endLog (saidStarted 1)) ≡ 28 ∷ 0 ∷ 0 ∷ 0 ∷ 0 ∷ 0 ∷ 1 ∷ []
+  pub walk : walkFields (walkTold rowNet filled rowLog 2 false) ≡ 0 ∷ 3 ∷ 2 ∷ 0 ∷ []
+  pub whole-walk : walkFields (walkTold rowNet filled rowLog 5 false) ≡ 0 ∷ 0 ∷ 5 ∷ 1 ∷ []
   -- step 1 is six bytes behind nine; there is no step 2
   pub step : stepFields (stepTold rowLog 1) ≡ 0 ∷ 0 ∷ 9 ∷ 6 ∷ []
   pub no-step : stepFields (stepTold rowLog 2) ≡ 23 ∷ 0 ∷ 0 ∷ 0 ∷ []

@@ -1,8 +1,11 @@
 -- The numbers that each call tells through the C interface, in the order of include/menu.h: those of the engine's answer, field by field.
 -- Assumes nothing.
 use mathlib.Core.Path.{_≡_}
+use mathlib.Core.Bool.{Bool, not}
 use mathlib.Core.List.{List, [], _∷_}
 use Prim.Native.Nat.{ℕ}
+use lib.Dec.{eqb}
+use Rattle.model.specs.Tab.{oneIf}
 use Rattle.runs.specs.declared.told.RunTold.{RunTold}
 use Rattle.runs.specs.declared.told.WalkTold.{WalkTold}
 use Rattle.engine.specs.declared.answers.Verdict.{Verdict}
@@ -11,6 +14,10 @@ use Rattle.engine.specs.declared.answers.DegreeTold.{DegreeTold}
 use Rattle.engine.specs.declared.answers.OwedTold.{OwedTold}
 use Rattle.engine.specs.declared.answers.StepTold.{StepTold}
 use Rattle.runner.specs.declared.call.PageTold.{PageTold}
+
+-- a start has happened in the step, as a caller says it: 0 is no, and any other number yes
+abbrev pub saidStarted : ℕ → Bool
+saidStarted n = not (eqb n 0)
 
 -- these are the numbers of an answer of which P holds
 abbrev pub OfAnswer : {A : Type 0} → (A → List ℕ) → List ℕ → (A → Type 0) → Type 0
@@ -40,7 +47,15 @@ owedFields told =
     ∷ []
 
 abbrev pub runFields : RunTold → List ℕ
-runFields told = told .number ∷ told .index ∷ told .done ∷ told .ticks ∷ told .short .place ∷ told .short .lacks ∷ []
+runFields told =
+    told .number
+    ∷ told .index
+    ∷ told .done
+    ∷ told .ticks
+    ∷ told .short .place
+    ∷ told .short .lacks
+    ∷ oneIf (told .started)
+    ∷ []
 
 -- of a walk back
 abbrev pub walkFields : WalkTold → List ℕ

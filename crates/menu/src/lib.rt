@@ -1,7 +1,8 @@
 // The calls of the engine and of the page runner for programs in C and other languages, as a static library; include/menu.h declares them. A slice is a pointer
 // and a length there. Each function tells its answer in a lent array of numbers, in the order that it has there, so that one form serves
 // every call and no struct's layout is agreed upon twice. None asks anything of the bytes that it is given, and the last clause of each
-// contract is the call's promise, of these very numbers and bytes.
+// contract is the call's promise, of these very numbers and bytes. `started` is 0 where no start has happened in the step, and any other number
+// where one has.
 use engine::calls;
 use runner::call;
 ghost use mathlib.Core.Path.{_≡_};
@@ -11,7 +12,7 @@ ghost use Rattle.engine.specs.Promised.{CheckNetPromise, CheckStatePromise, Ini
 ghost use Rattle.engine.specs.Promised.{DegreePromise, OwedPromise, RunPromise, WalkPromise, StepPromise};
 ghost use Rattle.runner.specs.Call.{pageTold, stateLeft, logLeft};
 ghost use Rattle.runner.specs.Promised.{PagePromise};
-ghost use Rattle.menu.specs.Fields.{OfAnswer, verdictFields, eventFields, degreeFields, owedFields, runFields, walkFields, stepFields, pageFields};
+ghost use Rattle.menu.specs.Fields.{saidStarted, OfAnswer, verdictFields, eventFields, degreeFields, owedFields, runFields, walkFields, stepFields, pageFields};
 
 // Checks a net: 1 to 6.
 #[no_mangle]
@@ -44,20 +45,21 @@ pub extern "C" fn menu_check_state(net: &[u8], state: &[u8], answer: &mut [u64; 
     *answer = [told.number as u64, told.index as u64];
 }
 
-// Does one event, given by its two bytes: 1 to 6, 8, 9, 11 to 20.
+// Does one event, given by its two bytes, where a start has happened before it in its step, or not: 1 to 6, 8, 9, 11 to 20, 28, 29.
 #[no_mangle]
 pub extern "C" fn menu_event(
     net: &[u8],
     state: &mut [u8],
     first: u8,
     second: u8,
+    started: u64,
     answer: &mut [u64; 4],
 )
-    ensures { λ _. ⌜ now (answer .exit) ≡ eventFields (eventTold (now (net .entry)) (now (state .entry)) first second) ⌝ }
-    ensures { λ _. ⌜ now (state .exit) ≡ eventLeft (now (net .entry)) (now (state .entry)) first second ⌝ }
-    ensures { λ _. ⌜ OfAnswer eventFields (now (answer .exit)) (λ r. EventPromise (now (net .entry)) (now (state .entry)) first second r (now (state .exit))) ⌝ }
+    ensures { λ _. ⌜ now (answer .exit) ≡ eventFields (eventTold (now (net .entry)) (now (state .entry)) first second (saidStarted started)) ⌝ }
+    ensures { λ _. ⌜ now (state .exit) ≡ eventLeft (now (net .entry)) (now (state .entry)) first second (saidStarted started) ⌝ }
+    ensures { λ _. ⌜ OfAnswer eventFields (now (answer .exit)) (λ r. EventPromise (now (net .entry)) (now (state .entry)) first second (saidStarted started) r (now (state .exit))) ⌝ }
 {
-    let told = calls::event(net, state, first, second);
+    let told = calls::event(net, state, first, second, started != 0);
     let short = told.short;
     *answer = [
         told.number as u64,
@@ -67,20 +69,21 @@ pub extern "C" fn menu_event(
     ];
 }
 
-// Takes one event back: 1 to 6, 8, 9, 11, 12, 15, 18, 20, 21, 24 to 27.
+// Takes one event back, where a start had happened before it in its step, or not: 1 to 6, 8, 9, 11, 12, 15, 18, 20, 21, 24 to 29.
 #[no_mangle]
 pub extern "C" fn menu_back(
     net: &[u8],
     state: &mut [u8],
     first: u8,
     second: u8,
+    started: u64,
     answer: &mut [u64; 2],
 )
-    ensures { λ _. ⌜ now (answer .exit) ≡ verdictFields (backTold (now (net .entry)) (now (state .entry)) first second) ⌝ }
-    ensures { λ _. ⌜ now (state .exit) ≡ backLeft (now (net .entry)) (now (state .entry)) first second ⌝ }
-    ensures { λ _. ⌜ OfAnswer verdictFields (now (answer .exit)) (λ r. BackPromise (now (net .entry)) (now (state .entry)) first second r (now (state .exit))) ⌝ }
+    ensures { λ _. ⌜ now (answer .exit) ≡ verdictFields (backTold (now (net .entry)) (now (state .entry)) first second (saidStarted started)) ⌝ }
+    ensures { λ _. ⌜ now (state .exit) ≡ backLeft (now (net .entry)) (now (state .entry)) first second (saidStarted started) ⌝ }
+    ensures { λ _. ⌜ OfAnswer verdictFields (now (answer .exit)) (λ r. BackPromise (now (net .entry)) (now (state .entry)) first second (saidStarted started) r (now (state .exit))) ⌝ }
 {
-    let told = calls::back(net, state, first, second);
+    let told = calls::back(net, state, first, second, started != 0);
     *answer = [told.number as u64, told.index as u64];
 }
 
@@ -116,14 +119,20 @@ pub extern "C" fn menu_owed(net: &[u8], state: &[u8], answer: &mut [u64; 9])
     ];
 }
 
-// Runs a log: 1 to 6, 8 to 20.
+// Runs a log, where a start has happened before its first event in its step, or not: 1 to 6, 8 to 20, 28, 29.
 #[no_mangle]
-pub extern "C" fn menu_run(net: &[u8], state: &mut [u8], log: &[u8], answer: &mut [u64; 6])
-    ensures { λ _. ⌜ now (answer .exit) ≡ runFields (runTold (now (net .entry)) (now (state .entry)) (now (log .entry))) ⌝ }
-    ensures { λ _. ⌜ now (state .exit) ≡ runLeft (now (net .entry)) (now (state .entry)) (now (log .entry)) ⌝ }
-    ensures { λ _. ⌜ OfAnswer runFields (now (answer .exit)) (λ r. RunPromise (now (net .entry)) (now (state .entry)) (now (log .entry)) r (now (state .exit))) ⌝ }
+pub extern "C" fn menu_run(
+    net: &[u8],
+    state: &mut [u8],
+    log: &[u8],
+    started: u64,
+    answer: &mut [u64; 7],
+)
+    ensures { λ _. ⌜ now (answer .exit) ≡ runFields (runTold (now (net .entry)) (now (state .entry)) (now (log .entry)) (saidStarted started)) ⌝ }
+    ensures { λ _. ⌜ now (state .exit) ≡ runLeft (now (net .entry)) (now (state .entry)) (now (log .entry)) (saidStarted started) ⌝ }
+    ensures { λ _. ⌜ OfAnswer runFields (now (answer .exit)) (λ r. RunPromise (now (net .entry)) (now (state .entry)) (now (log .entry)) (saidStarted started) r (now (state .exit))) ⌝ }
 {
-    let told = calls::run(net, state, log);
+    let told = calls::run(net, state, log, started != 0);
     let short = told.short;
     *answer = [
         told.number as u64,
@@ -132,23 +141,26 @@ pub extern "C" fn menu_run(net: &[u8], state: &mut [u8], log: &[u8], answer: &mu
         told.ticks as u64,
         short.place as u64,
         short.lacks as u64,
+        told.started as u64,
     ];
 }
 
-// Walks the last n events of a log back: 1 to 6, 8 to 12, 15, 18, 20 to 22, 24 to 27.
+// Walks the last n events of a log back, where a start had happened before the first of them all in its step, or not: 1 to 6, 8 to 12, 15, 18,
+// 20 to 22, 24 to 29.
 #[no_mangle]
 pub extern "C" fn menu_walk(
     net: &[u8],
     state: &mut [u8],
     log: &[u8],
     n: usize,
+    started: u64,
     answer: &mut [u64; 4],
 )
-    ensures { λ _. ⌜ now (answer .exit) ≡ walkFields (walkTold (now (net .entry)) (now (state .entry)) (now (log .entry)) n) ⌝ }
-    ensures { λ _. ⌜ now (state .exit) ≡ walkLeft (now (net .entry)) (now (state .entry)) (now (log .entry)) n ⌝ }
-    ensures { λ _. ⌜ OfAnswer walkFields (now (answer .exit)) (λ r. WalkPromise (now (net .entry)) (now (state .entry)) (now (log .entry)) n r (now (state .exit))) ⌝ }
+    ensures { λ _. ⌜ now (answer .exit) ≡ walkFields (walkTold (now (net .entry)) (now (state .entry)) (now (log .entry)) n (saidStarted started)) ⌝ }
+    ensures { λ _. ⌜ now (state .exit) ≡ walkLeft (now (net .entry)) (now (state .entry)) (now (log .entry)) n (saidStarted started) ⌝ }
+    ensures { λ _. ⌜ OfAnswer walkFields (now (answer .exit)) (λ r. WalkPromise (now (net .entry)) (now (state .entry)) (now (log .entry)) n (saidStarted started) r (now (state .exit))) ⌝ }
 {
-    let told = calls::walk(net, state, log, n);
+    let told = calls::walk(net, state, log, n, started != 0);
     *answer = [
         told.number as u64,
         told.index as u64,

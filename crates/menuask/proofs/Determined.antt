@@ -7,6 +7,8 @@ use Rattle.model.proofs.Determined.{Determined, LeavesOne}
 use Rattle.text.proofs.Determined.{line-once}
 use Rattle.menuask.proofs.request.numbers.Reads as numbers
 use Rattle.menuask.proofs.request.numbers.Kinds as numbers-kinds
+use Rattle.menuask.proofs.request.takes_fact.Reads as takes-fact
+use Rattle.menuask.proofs.request.takes_fact.Kinds as takes-fact-kinds
 use Rattle.menuask.proofs.request.parts_of.Reads as parts-of
 use Rattle.menuask.proofs.request.parts_of.Kinds as parts-of-kinds
 use Rattle.menuask.proofs.request.asks.Reads as asks
@@ -16,6 +18,9 @@ use Rattle.menuask.proofs.answer.answer.Kinds as answer-kinds
 
 pub numbers-determined : Determined 0 numbers-kinds.ps numbers-kinds.r numbers.Learnt
 numbers-determined κs args x y s s′ p q = p ∙ sym q
+
+pub takes-fact-determined : Determined 0 takes-fact-kinds.ps takes-fact-kinds.r takes-fact.Learnt
+takes-fact-determined κs args x y s s′ p q = p ∙ sym q
 
 pub parts-of-determined : Determined 0 parts-of-kinds.ps parts-of-kinds.r parts-of.Learnt
 parts-of-determined κs args x y s s′ p q = p ∙ sym q
@@ -29,8 +34,8 @@ answer-determined κs args x y s s′ p q = line-once _ _ _ _ _ (now (s .0)) (no
 pub answer-leaves : LeavesOne 4 answer-kinds.ps answer-kinds.r answer.Learnt (λ κs s. now (s .0))
 answer-leaves κs args x y s s′ p q = line-once _ _ _ _ _ (now (s .0)) (now (s′ .0)) x y (p .1 .0) (q .1 .0) .0
 
-pub answer-leaves-state : LeavesOne 4 answer-kinds.ps answer-kinds.r answer.Learnt (λ κs s. now (s .1 .1 .1 .1 .1 .0))
+pub answer-leaves-state : LeavesOne 4 answer-kinds.ps answer-kinds.r answer.Learnt (λ κs s. now (s .1 .1 .1 .1 .1 .1 .0))
 answer-leaves-state κs args x y s s′ p q = p .1 .1 .0 ∙ sym (q .1 .1 .0)
 
-pub answer-leaves-log : LeavesOne 4 answer-kinds.ps answer-kinds.r answer.Learnt (λ κs s. now (s .1 .1 .1 .1 .1 .1 .0))
+pub answer-leaves-log : LeavesOne 4 answer-kinds.ps answer-kinds.r answer.Learnt (λ κs s. now (s .1 .1 .1 .1 .1 .1 .1 .0))
 answer-leaves-log κs args x y s s′ p q = p .1 .1 .1 ∙ sym (q .1 .1 .1)

@@ -8,7 +8,7 @@ use Rattle.text.specs.Lines.{bufferMost, lineMost, Line}
 use Rattle.engine.specs.Calls.{netTold, stateTold, initialTold, initialLeft, eventTold, eventLeft, backTold, backLeft}
 use Rattle.engine.specs.Calls.{degreeTold, owedTold, runTold, runLeft, walkTold, walkLeft, stepTold}
 use Rattle.runner.specs.Call.{pageTold, stateLeft, logLeft}
-use Rattle.menu.specs.Fields.{verdictFields, eventFields, degreeFields, owedFields, runFields, walkFields, stepFields, pageFields}
+use Rattle.menu.specs.Fields.{saidStarted, verdictFields, eventFields, degreeFields, owedFields, runFields, walkFields, stepFields, pageFields}
 
 -- the parts of a line
 pub record Reply : Type 0 where
@@ -74,13 +74,13 @@ initialReply net state = shows initialName (verdictFields (initialTold net state
 abbrev pub checkStateReply : List ℕ → List ℕ → Reply
 checkStateReply net state = tells checkStateName (verdictFields (stateTold net state))
 
-abbrev pub eventReply : List ℕ → List ℕ → ℕ → ℕ → Reply
-eventReply net state first second =
-    shows eventName (eventFields (eventTold net state first second)) (eventLeft net state first second)
+abbrev pub eventReply : List ℕ → List ℕ → ℕ → ℕ → ℕ → Reply
+eventReply net state first second started =
+    shows eventName (eventFields (eventTold net state first second (saidStarted started))) (eventLeft net state first second (saidStarted started))
 
-abbrev pub backReply : List ℕ → List ℕ → ℕ → ℕ → Reply
-backReply net state first second =
-    shows backName (verdictFields (backTold net state first second)) (backLeft net state first second)
+abbrev pub backReply : List ℕ → List ℕ → ℕ → ℕ → ℕ → Reply
+backReply net state first second started =
+    shows backName (verdictFields (backTold net state first second (saidStarted started))) (backLeft net state first second (saidStarted started))
 
 abbrev pub degreeReply : List ℕ → List ℕ → ℕ → Reply
 degreeReply net state t = tells degreeName (degreeFields (degreeTold net state t))
@@ -88,11 +88,13 @@ degreeReply net state t = tells degreeName (degreeFields (degreeTold net state t
 abbrev pub owedReply : List ℕ → List ℕ → Reply
 owedReply net state = tells owedName (owedFields (owedTold net state))
 
-abbrev pub runReply : List ℕ → List ℕ → List ℕ → Reply
-runReply net state log = shows runName (runFields (runTold net state log)) (runLeft net state log)
+abbrev pub runReply : List ℕ → List ℕ → List ℕ → ℕ → Reply
+runReply net state log started =
+    shows runName (runFields (runTold net state log (saidStarted started))) (runLeft net state log (saidStarted started))
 
-abbrev pub walkReply : List ℕ → List ℕ → List ℕ → ℕ → Reply
-walkReply net state log n = shows walkName (walkFields (walkTold net state log n)) (walkLeft net state log n)
+abbrev pub walkReply : List ℕ → List ℕ → List ℕ → ℕ → ℕ → Reply
+walkReply net state log n started =
+    shows walkName (walkFields (walkTold net state log n (saidStarted started))) (walkLeft net state log n (saidStarted started))
 
 abbrev pub stepReply : List ℕ → ℕ → Reply
 stepReply log k = tells stepName (stepFields (stepTold log k))
@@ -102,28 +104,28 @@ pageReply net state log budget =
     showsBoth pageName (pageFields (pageTold net state log budget)) (stateLeft net state log budget) (logLeft net state log budget)
 
 -- by the byte that a request begins with: 1 to 11, for no other is answered (`asks?` of Requests)
-unfoldable pub replyTo : ℕ → ℕ → ℕ → List ℕ → List ℕ → List ℕ → Reply
-replyTo kind first second net state log =
+unfoldable pub replyTo : ℕ → ℕ → ℕ → ℕ → List ℕ → List ℕ → List ℕ → Reply
+replyTo kind first second started net state log =
     cond (eqb kind 1) (checkNetReply net)
     (cond (eqb kind 2) (initialReply net state)
     (cond (eqb kind 3) (checkStateReply net state)
-    (cond (eqb kind 4) (eventReply net state first second)
-    (cond (eqb kind 5) (backReply net state first second)
+    (cond (eqb kind 4) (eventReply net state first second started)
+    (cond (eqb kind 5) (backReply net state first second started)
     (cond (eqb kind 6) (degreeReply net state first)
     (cond (eqb kind 7) (owedReply net state)
-    (cond (eqb kind 8) (runReply net state log)
-    (cond (eqb kind 9) (walkReply net state log first)
+    (cond (eqb kind 8) (runReply net state log started)
+    (cond (eqb kind 9) (walkReply net state log first started)
     (cond (eqb kind 10) (stepReply log first)
     (pageReply net state log first))))))))))
 
 -- what the state's buffer holds afterwards
-unfoldable pub leftBy : ℕ → ℕ → ℕ → List ℕ → List ℕ → List ℕ → List ℕ
-leftBy kind first second net state log =
+unfoldable pub leftBy : ℕ → ℕ → ℕ → ℕ → List ℕ → List ℕ → List ℕ → List ℕ
+leftBy kind first second started net state log =
     cond (eqb kind 2) (initialLeft net state)
-    (cond (eqb kind 4) (eventLeft net state first second)
-    (cond (eqb kind 5) (backLeft net state first second)
-    (cond (eqb kind 8) (runLeft net state log)
-    (cond (eqb kind 9) (walkLeft net state log first)
+    (cond (eqb kind 4) (eventLeft net state first second (saidStarted started))
+    (cond (eqb kind 5) (backLeft net state first second (saidStarted started))
+    (cond (eqb kind 8) (runLeft net state log (saidStarted started))
+    (cond (eqb kind 9) (walkLeft net state log first (saidStarted started))
     (cond (eqb kind 11) (stateLeft net state log first)
     state)))))
 

@@ -25,6 +25,10 @@ within-or-page? kind least most = eqb kind 11 || within? kind least most
 abbrev pub numbersOf : ℕ → ℕ
 numbersOf kind = cond (within? kind 4 5) 2 (cond (within? kind 6 6) 1 (cond (within? kind 9 11) 1 0))
 
+-- and whether a start has happened in the step, for an event or its taking back, a run or a walk
+abbrev pub takes-fact? : ℕ → Bool
+takes-fact? kind = within? kind 4 5 || within? kind 8 9
+
 -- its slices and numbers, in this order
 abbrev pub partsOf : ℕ → Parts
 partsOf kind = record {
@@ -32,8 +36,9 @@ partsOf kind = record {
   state = within-or-page? kind 2 9;
   log = within? kind 8 11;
   numbers = numbersOf kind;
+  started = takes-fact? kind;
 }
 
--- there is such a call, and the bytes of an event are bytes
-abbrev pub asks? : ℕ → ℕ → ℕ → Bool
-asks? kind first second = cond (within? kind 4 5) (leb first 255 && leb second 255) (within? kind 1 11)
+-- there is such a call, the bytes of an event are bytes, and whether a start has happened is said by 0 or 1
+abbrev pub asks? : ℕ → ℕ → ℕ → ℕ → Bool
+asks? kind first second started = leb started 1 && cond (within? kind 4 5) (leb first 255 && leb second 255) (within? kind 1 11)

@@ -7,6 +7,7 @@ ghost use Prim.Native.Nat.{_≤_};
 ghost use lib.ListN.{length};
 ghost use Rattle.engine.specs.Calls.{initialLeft, eventLeft, backLeft, runLeft, walkLeft};
 ghost use Rattle.runner.specs.Call.{stateLeft, logLeft};
+ghost use Rattle.menu.specs.Fields.{saidStarted};
 ghost use Rattle.menuask.specs.Requests.{asks?};
 ghost use Rattle.menuask.specs.Replies.{checkNetReply, initialReply, checkStateReply, eventReply, backReply, degreeReply};
 ghost use Rattle.menuask.specs.Replies.{owedReply, runReply, walkReply, stepReply, pageReply, replyTo, leftBy, logBy, Replied, replyMost, bothMost};
@@ -42,25 +43,25 @@ fn check_state(out: &mut [u8], net: &[u8], state: &[u8]) -> usize
     line::put_line(out, 0, b"check_state", &told)
 }
 
-fn event(out: &mut [u8], net: &[u8], state: &mut [u8], first: u8, second: u8) -> usize
+fn event(out: &mut [u8], net: &[u8], state: &mut [u8], first: u8, second: u8, started: u64) -> usize
     requires { ⌜ replyMost (length (now state)) ≤ length (now out) ⌝ }
     ensures { λ r. ⌜ r ≤ length (now (out .exit)) ⌝ }
-    ensures { λ r. ⌜ Replied (eventReply (now (net .entry)) (now (state .entry)) first second) (now (out .entry)) (now (out .exit)) r ⌝ }
-    ensures { λ _. ⌜ now (state .exit) ≡ eventLeft (now (net .entry)) (now (state .entry)) first second ⌝ }
+    ensures { λ r. ⌜ Replied (eventReply (now (net .entry)) (now (state .entry)) first second started) (now (out .entry)) (now (out .exit)) r ⌝ }
+    ensures { λ _. ⌜ now (state .exit) ≡ eventLeft (now (net .entry)) (now (state .entry)) first second (saidStarted started) ⌝ }
 {
     let mut told = [0u64; 4];
-    menu::menu_event(net, state, first, second, &mut told);
+    menu::menu_event(net, state, first, second, started, &mut told);
     line::put_line_with(out, 0, b"event", &told, state)
 }
 
-fn back(out: &mut [u8], net: &[u8], state: &mut [u8], first: u8, second: u8) -> usize
+fn back(out: &mut [u8], net: &[u8], state: &mut [u8], first: u8, second: u8, started: u64) -> usize
     requires { ⌜ replyMost (length (now state)) ≤ length (now out) ⌝ }
     ensures { λ r. ⌜ r ≤ length (now (out .exit)) ⌝ }
-    ensures { λ r. ⌜ Replied (backReply (now (net .entry)) (now (state .entry)) first second) (now (out .entry)) (now (out .exit)) r ⌝ }
-    ensures { λ _. ⌜ now (state .exit) ≡ backLeft (now (net .entry)) (now (state .entry)) first second ⌝ }
+    ensures { λ r. ⌜ Replied (backReply (now (net .entry)) (now (state .entry)) first second started) (now (out .entry)) (now (out .exit)) r ⌝ }
+    ensures { λ _. ⌜ now (state .exit) ≡ backLeft (now (net .entry)) (now (state .entry)) first second (saidStarted started) ⌝ }
 {
     let mut told = [0u64; 2];
-    menu::menu_back(net, state, first, second, &mut told);
+    menu::menu_back(net, state, first, second, started, &mut told);
     line::put_line_with(out, 0, b"back", &told, state)
 }
 
@@ -84,25 +85,25 @@ fn owed(out: &mut [u8], net: &[u8], state: &[u8]) -> usize
     line::put_line(out, 0, b"owed", &told)
 }
 
-fn run(out: &mut [u8], net: &[u8], state: &mut [u8], log: &[u8]) -> usize
+fn run(out: &mut [u8], net: &[u8], state: &mut [u8], log: &[u8], started: u64) -> usize
     requires { ⌜ replyMost (length (now state)) ≤ length (now out) ⌝ }
     ensures { λ r. ⌜ r ≤ length (now (out .exit)) ⌝ }
-    ensures { λ r. ⌜ Replied (runReply (now (net .entry)) (now (state .entry)) (now (log .entry))) (now (out .entry)) (now (out .exit)) r ⌝ }
-    ensures { λ _. ⌜ now (state .exit) ≡ runLeft (now (net .entry)) (now (state .entry)) (now (log .entry)) ⌝ }
+    ensures { λ r. ⌜ Replied (runReply (now (net .entry)) (now (state .entry)) (now (log .entry)) started) (now (out .entry)) (now (out .exit)) r ⌝ }
+    ensures { λ _. ⌜ now (state .exit) ≡ runLeft (now (net .entry)) (now (state .entry)) (now (log .entry)) (saidStarted started) ⌝ }
 {
-    let mut told = [0u64; 6];
-    menu::menu_run(net, state, log, &mut told);
+    let mut told = [0u64; 7];
+    menu::menu_run(net, state, log, started, &mut told);
     line::put_line_with(out, 0, b"run", &told, state)
 }
 
-fn walk(out: &mut [u8], net: &[u8], state: &mut [u8], log: &[u8], n: usize) -> usize
+fn walk(out: &mut [u8], net: &[u8], state: &mut [u8], log: &[u8], n: usize, started: u64) -> usize
     requires { ⌜ replyMost (length (now state)) ≤ length (now out) ⌝ }
     ensures { λ r. ⌜ r ≤ length (now (out .exit)) ⌝ }
-    ensures { λ r. ⌜ Replied (walkReply (now (net .entry)) (now (state .entry)) (now (log .entry)) n) (now (out .entry)) (now (out .exit)) r ⌝ }
-    ensures { λ _. ⌜ now (state .exit) ≡ walkLeft (now (net .entry)) (now (state .entry)) (now (log .entry)) n ⌝ }
+    ensures { λ r. ⌜ Replied (walkReply (now (net .entry)) (now (state .entry)) (now (log .entry)) n started) (now (out .entry)) (now (out .exit)) r ⌝ }
+    ensures { λ _. ⌜ now (state .exit) ≡ walkLeft (now (net .entry)) (now (state .entry)) (now (log .entry)) n (saidStarted started) ⌝ }
 {
     let mut told = [0u64; 4];
-    menu::menu_walk(net, state, log, n, &mut told);
+    menu::menu_walk(net, state, log, n, started, &mut told);
     line::put_line_with(out, 0, b"walk", &told, state)
 }
 
@@ -134,27 +135,28 @@ pub fn answer(
     kind: u8,
     first: usize,
     second: usize,
+    started: u64,
     net: &[u8],
     state: &mut [u8],
     log: &mut [u8],
 ) -> usize
     requires { ⌜ bothMost (length (now state)) (length (now log)) ≤ length (now out) ⌝ }
-    requires { ⌜ asks? kind first second ≡ true ⌝ }
+    requires { ⌜ asks? kind first second started ≡ true ⌝ }
     ensures { λ r. ⌜ r ≤ length (now (out .exit)) ⌝ }
-    ensures { λ r. ⌜ Replied (replyTo kind first second (now (net .entry)) (now (state .entry)) (now (log .entry))) (now (out .entry)) (now (out .exit)) r ⌝ }
-    ensures { λ _. ⌜ now (state .exit) ≡ leftBy kind first second (now (net .entry)) (now (state .entry)) (now (log .entry)) ⌝ }
+    ensures { λ r. ⌜ Replied (replyTo kind first second started (now (net .entry)) (now (state .entry)) (now (log .entry))) (now (out .entry)) (now (out .exit)) r ⌝ }
+    ensures { λ _. ⌜ now (state .exit) ≡ leftBy kind first second started (now (net .entry)) (now (state .entry)) (now (log .entry)) ⌝ }
     ensures { λ _. ⌜ now (log .exit) ≡ logBy kind first (now (net .entry)) (now (state .entry)) (now (log .entry)) ⌝ }
 {
     match kind {
         1 => check_net(out, net),
         2 => initial(out, net, state),
         3 => check_state(out, net, state),
-        4 => event(out, net, state, first as u8, second as u8),
-        5 => back(out, net, state, first as u8, second as u8),
+        4 => event(out, net, state, first as u8, second as u8, started),
+        5 => back(out, net, state, first as u8, second as u8, started),
         6 => degree(out, net, state, first),
         7 => owed(out, net, state),
-        8 => run(out, net, state, log),
-        9 => walk(out, net, state, log, first),
+        8 => run(out, net, state, log, started),
+        9 => walk(out, net, state, log, first, started),
         10 => step(out, log, first),
         _ => page(out, net, state, log, first),
     }

@@ -42,6 +42,7 @@ fn serve(out: &mut [u8], net: &mut [u8], state: &mut [u8], log: &mut [u8]) -> bo
         kind[0],
         asked.first,
         asked.second,
+        asked.started as u64,
         &net[..n],
         &mut state[..s],
         &mut log[..l],

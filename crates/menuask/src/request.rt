@@ -4,14 +4,15 @@ use libc::STDIN_FILENO;
 ghost use mathlib.Core.Path.{_≡_};
 ghost use mathlib.Core.Bool.{true};
 ghost use Rattle.io.specs.Counts.{Counts};
-ghost use Rattle.menuask.specs.Requests.{within?, within-or-page?, numbersOf, partsOf, asks?};
+ghost use Rattle.menuask.specs.Requests.{within?, within-or-page?, numbersOf, takes-fact?, partsOf, asks?};
 
-// What a request of some kind has, in this order; `numbers` is how many numbers follow.
+// What a request of some kind has, in this order: slices, so many numbers, and the number that says whether a start has happened in the step.
 pub struct Parts {
     pub net: bool,
     pub state: bool,
     pub log: bool,
     pub numbers: usize,
+    pub started: bool,
 }
 
 // A number, or the length of a slice; and whether the request is fine up to here: it was, and all of this part arrived and has room.
@@ -28,6 +29,7 @@ pub struct Request {
     pub log: usize,
     pub first: usize,
     pub second: usize,
+    pub started: usize,
 }
 
 // The byte of a request is one of these.
@@ -66,6 +68,16 @@ pub fn numbers(kind: u8) -> usize
     0
 }
 
+// A request of this kind says whether a start has happened in the step: one for an event or its taking back, a run or a walk.
+pub fn takes_fact(kind: u8) -> bool
+    ensures { λ r. ⌜ r ≡ takes-fact? kind ⌝ }
+{
+    if within(kind, 4, 5) {
+        return true;
+    }
+    within(kind, 8, 9)
+}
+
 // What a request of this kind has. One of an unknown kind has nothing.
 pub fn parts_of(kind: u8) -> Parts
     ensures { λ r. ⌜ r ≡ partsOf kind ⌝ }
@@ -75,13 +87,17 @@ pub fn parts_of(kind: u8) -> Parts
         state: within_or_page(kind, 2, 9),
         log: within(kind, 8, 11),
         numbers: numbers(kind),
+        started: takes_fact(kind),
     }
 }
 
-// There is a call of this kind, and the bytes of an event are bytes.
-pub fn asks(kind: u8, first: usize, second: usize) -> bool
-    ensures { λ r. ⌜ r ≡ asks? kind first second ⌝ }
+// There is a call of this kind, the bytes of an event are bytes, and whether a start has happened is said by 0 or 1.
+pub fn asks(kind: u8, first: usize, second: usize, started: usize) -> bool
+    ensures { λ r. ⌜ r ≡ asks? kind first second started ⌝ }
 {
+    if 1 < started {
+        return false;
+    }
     if within(kind, 4, 5) {
         if 255 < first {
             return false;
@@ -137,7 +153,7 @@ pub fn read(kind: u8, net: &mut [u8], state: &mut [u8], log: &mut [u8]) -> Reque
     ensures { λ r. ⌜ Counts (r .net) (now (net .exit)) ⌝ }
     ensures { λ r. ⌜ Counts (r .state) (now (state .exit)) ⌝ }
     ensures { λ r. ⌜ Counts (r .log) (now (log .exit)) ⌝ }
-    ensures { λ r. ⌜ (r .fine ≡ true → asks? kind (r .first) (r .second) ≡ true) ⌝ }
+    ensures { λ r. ⌜ (r .fine ≡ true → asks? kind (r .first) (r .second) (r .started) ≡ true) ⌝ }
 {
     let has = parts_of(kind);
     let nets = slice(true, has.net, net);
@@ -145,7 +161,8 @@ pub fn read(kind: u8, net: &mut [u8], state: &mut [u8], log: &mut [u8]) -> Reque
     let logs = slice(states.fine, has.log, log);
     let first = number(logs.fine, 1 <= has.numbers);
     let second = number(first.fine, 2 <= has.numbers);
-    let fine = second.fine && asks(kind, first.value, second.value);
+    let started = number(second.fine, has.started);
+    let fine = started.fine && asks(kind, first.value, second.value, started.value);
     Request {
         fine,
         net: nets.value,
@@ -153,5 +170,6 @@ pub fn read(kind: u8, net: &mut [u8], state: &mut [u8], log: &mut [u8]) -> Reque
         log: logs.value,
         first: first.value,
         second: second.value,
+        started: started.value,
     }
 }

@@ -1,6 +1,7 @@
 -- DEMAND 3: `back` gives the one lawful state from which the event leads here, and refuses where there is none.
 -- Assumes nothing.
 use mathlib.Core.Path.{_≡_, sym, ap, subst, _∙_}
+use mathlib.Core.Bool.{Bool}
 use mathlib.Core.Logic.{_↔_}
 use Prim.Native.Nat.{ℕ, zero, suc, _<_, _≤_}
 use native.Mathlib.Omega.{arith}
@@ -11,37 +12,40 @@ use Rattle.model.specs.declared.answer.Barrier.the-variants as barrier
 use Rattle.model.specs.declared.answer.Refusal.the-variants as refusal
 use Rattle.model.specs.Limits.{Held, tokenLimit}
 use Rattle.model.specs.Net.{Net, State, Lawful, width, count}
-use Rattle.model.specs.Moves.{NoStartOwed, NothingRunning, Timely, HasRoom, Covers, NoneFresh, Starts, Ends, Ticks, Moves}
+use Rattle.model.specs.Moves.{NoStartOwed, NothingRunning, Timely, HasRoom, Covers, NoneFresh, MayEnd, NoOldEndOwed, Starts, Ends, Ticks, Moves}
 use Rattle.model.specs.Rules.{done, apply, back, unstarted, unended, unticked}
 use Rattle.model.proofs.Tab.{below-or-past, one-here, one-off, one-le, one-room}
 use Rattle.model.proofs.Tests.{leb-tells, ltb-tells, not-tells, held-tells, timely-tells, no-start-owed-tells}
-use Rattle.model.proofs.Tests.{nothing-running-tells, has-room-tells, covers-tells, none-fresh-tells, unless-done, done-is, never}
+use Rattle.model.proofs.Tests.{may-end-tells, no-old-end-owed-tells, nothing-running-tells, has-room-tells, covers-tells, none-fresh-tells}
+use Rattle.model.proofs.Tests.{unless-done, done-is, never}
 use Rattle.model.proofs.Shape.{lfd-fits, width-pos, build-shaped, tokens-build, count-build, count-past, built}
 use Rattle.model.proofs.Forward.{apply-exact}
-use Rattle.model.proofs.Lawful.{zero-past-lfd, zero-from-lfd, held-past, moves-lawful}
+use Rattle.model.proofs.Lawful.{zero-past-lfd, zero-from-lfd, held-past, moves-lawful, settles-start}
 
-module _ (N : Net) (S′ S : State) where
+module _ (N : Net) (begun : Bool) (S′ S : State) where
   -- what lets `back` take an event back, test by test
-  start-passes : (t : ℕ) → (back N S′ (event.Start t) ≡ done S)
+  start-passes : (t : ℕ) → (back N begun S′ (event.Start t) ≡ done S)
       ↔ ((t < N .transitions) × ((1 ≤ count S′ t 0)
-      × (HasRoom N S′ (N .takes t) × (unstarted N S′ t ≡ S))))
+      × (HasRoom N S′ (N .takes t) × (NoOldEndOwed N S′ × (unstarted N S′ t ≡ S)))))
   unfolding back
   start-passes t =
       unless-done refusal.NoSuchTransition (ltb-tells t (N .transitions))
       (unless-done (refusal.OnlyBack barrier.NoneStarted) (leb-tells 1 (count S′ t 0))
-      (unless-done (refusal.OnlyBack barrier.PlaceOverfull) (has-room-tells N S′ (N .takes t)) (done-is (unstarted N S′ t) S)))
+      (unless-done (refusal.OnlyBack barrier.PlaceOverfull) (has-room-tells N S′ (N .takes t))
+      (unless-done refusal.OldEndOwed (no-old-end-owed-tells N S′) (done-is (unstarted N S′ t) S))))
 
-  end-passes : (t : ℕ) (age : Age) → (back N S′ (event.End t age) ≡ done S)
-      ↔ ((t < N .transitions) × (Timely N t (age .0)
-      × (Covers N S′ (N .gives t) × (Held (suc (count S′ t (age .0))) × (unended N S′ t (age .0) ≡ S)))))
+  end-passes : (t : ℕ) (age : Age) → (back N begun S′ (event.End t age) ≡ done S)
+      ↔ ((t < N .transitions) × (Timely N t (age .0) × (MayEnd begun (age .0)
+      × (Covers N S′ (N .gives t) × (Held (suc (count S′ t (age .0))) × (unended N S′ t (age .0) ≡ S))))))
   unfolding back
   end-passes t age =
       unless-done refusal.NoSuchTransition (ltb-tells t (N .transitions))
       (unless-done refusal.OutsideInterval (timely-tells N t (age .0))
+      (unless-done refusal.OldAfterStart (may-end-tells begun (age .0))
       (unless-done (refusal.OnlyBack barrier.TooFewTokens) (covers-tells N S′ (N .gives t))
-      (unless-done (refusal.OnlyBack barrier.CountOverfull) (held-tells (suc (count S′ t (age .0)))) (done-is (unended N S′ t (age .0)) S))))
+      (unless-done (refusal.OnlyBack barrier.CountOverfull) (held-tells (suc (count S′ t (age .0)))) (done-is (unended N S′ t (age .0)) S)))))
 
-  tick-passes : (back N S′ event.Tick ≡ done S)
+  tick-passes : (back N begun S′ event.Tick ≡ done S)
       ↔ (NoneFresh N S′ × (NoStartOwed N S′ × ((¬ NothingRunning N S′) × (unticked N S′ ≡ S))))
   unfolding back
   tick-passes =
@@ -52,10 +56,10 @@ module _ (N : Net) (S′ S : State) where
 -- THE STATE THAT `back` BUILDS IS LAWFUL, AND THE EVENT LEADS FROM IT
 
 module _ (N : Net) (S′ : State) (s′ : Lawful N S′) where
-  from-unstarted : (t : ℕ) → t < N .transitions → 1 ≤ count S′ t 0 → HasRoom N S′ (N .takes t)
+  from-unstarted : (t : ℕ) → t < N .transitions → 1 ≤ count S′ t 0 → HasRoom N S′ (N .takes t) → NoOldEndOwed N S′
       → Lawful N (unstarted N S′ t) × Starts N (unstarted N S′ t) t S′
   unfolding unstarted
-  from-unstarted t l a r = (
+  from-unstarted t l a r o = (
     record {
       shaped = build-shaped N _ _;
       none-past-lfd = λ u k b c h. rw count-build (omega (arith, s′ .none-past-lfd u k b c h));
@@ -65,6 +69,7 @@ module _ (N : Net) (S′ : State) (s′ : Lawful N S′) where
     record {
       known = l;
       enabled = λ p b. rw tokens-build (omega arith);
+      no-old-end-owed = λ u b h. rw (count-build N _ _ u (N .lfd u) b (lfd-fits N u b)) (omega (arith, o u b h));
       room = rw (count-build N _ _ t 0 l (width-pos N)) (omega (arith, one-here t 0, s′ .counts-fit t 0 l (width-pos N)));
       marked = λ p b. sym (tokens-build N _ _ p b);
       counted = λ u k b c. rw count-build (omega (arith, one-le (count S′) t 0 u k a));
@@ -72,10 +77,10 @@ module _ (N : Net) (S′ : State) (s′ : Lawful N S′) where
     },
   )
 
-  from-unended : (t j : ℕ) → t < N .transitions → Timely N t j → Covers N S′ (N .gives t)
-      → Held (suc (count S′ t j)) → Lawful N (unended N S′ t j) × Ends N (unended N S′ t j) t j S′
+  from-unended : {begun : Bool} (t j : ℕ) → t < N .transitions → Timely N t j → MayEnd begun j → Covers N S′ (N .gives t)
+      → Held (suc (count S′ t j)) → Lawful N (unended N S′ t j) × Ends N begun (unended N S′ t j) t j S′
   unfolding unended
-  from-unended t j l i r a = (
+  from-unended t j l i o r a = (
     record {
       shaped = build-shaped N _ _;
       none-past-lfd = λ u k b c h.
@@ -86,6 +91,7 @@ module _ (N : Net) (S′ : State) (s′ : Lawful N S′) where
     record {
       known = l;
       timely = i;
+      may-end = o;
       active = rw (count-build N _ _ t j l (omega (arith, lfd-fits N t l))) (omega (arith, one-here t j));
       room = λ p b. rw tokens-build (omega (arith, r p b, s′ .tokens-fit p b));
       marked = λ p b. rw tokens-build (omega (arith, r p b));
@@ -126,7 +132,7 @@ module _ (N : Net) (S S′ : State) (s : Lawful N S) where
   unfolding unstarted
   only-unstarted t m = built N _ _ S (s .shaped) (m .marked) (λ u k b c. omega (arith, m .counted u k b c))
 
-  only-unended : (t j : ℕ) → Ends N S t j S′ → unended N S′ t j ≡ S
+  only-unended : {begun : Bool} (t j : ℕ) → Ends N begun S t j S′ → unended N S′ t j ≡ S
   unfolding unended
   only-unended t j m = built N _ _ S (s .shaped) (λ p b. omega (arith, m .marked p b)) (m .counted)
 
@@ -145,13 +151,13 @@ module _ (N : Net) (S S′ : State) (s : Lawful N S) where
   only-unticked m = built N _ _ S (s .shaped) (m .marked) (aged-all m)
 
 -- `back`, against the relation: it is done with S exactly if S is lawful and the event leads from S to S′
-pub back-exact : (N : Net) (S′ : State) → Lawful N S′ → (e : Event) (S : State)
-    → (back N S′ e ≡ done S) ↔ (Lawful N S × Moves N S e S′)
+pub back-exact : (N : Net) (begun : Bool) (S′ : State) → Lawful N S′ → (e : Event) (S : State)
+    → (back N begun S′ e ≡ done S) ↔ (Lawful N S × Moves N begun S e S′)
 unfolding back
-back-exact N S′ s′ event.Tick S = (
-  (λ d. let (f, (q, (a, r))) = tick-passes N S′ S .0 d in
+back-exact N begun S′ s′ event.Tick S = (
+  (λ d. let (f, (q, (a, r))) = tick-passes N begun S′ S .0 d in
       subst (λ (X : State). Lawful N X × Ticks N X S′) r (from-unticked N S′ s′ f q a)),
-  λ (s, m). tick-passes N S′ S .1 (
+  λ (s, m). tick-passes N begun S′ S .1 (
     m .fresh,
     (
       (λ t b en. m .no-start-owed t b (λ p c. omega (arith, m .marked p c, en p c))),
@@ -159,59 +165,64 @@ back-exact N S′ s′ event.Tick S = (
     ),
   ),
 )
-back-exact N S′ s′ (event.Start t) S = (
-  (λ d. let (l, (a, (r, q))) = start-passes N S′ S t .0 d in
-      subst (λ (X : State). Lawful N X × Starts N X t S′) q (from-unstarted N S′ s′ t l a r)),
-  λ (s, m). start-passes N S′ S t .1 (
+back-exact N begun S′ s′ (event.Start t) S = (
+  (λ d. let (l, (a, (r, (o, q)))) = start-passes N begun S′ S t .0 d in
+      subst (λ (X : State). Lawful N X × Starts N X t S′) q (from-unstarted N S′ s′ t l a r o)),
+  λ (s, m). start-passes N begun S′ S t .1 (
     m .known,
     (
       omega (arith, m .counted t 0 (m .known) (width-pos N), one-here t 0),
-      ((λ p b. omega (arith, m .marked p b, s .tokens-fit p b)), only-unstarted N S S′ s t m),
+      ((λ p b. omega (arith, m .marked p b, s .tokens-fit p b)), (settles-start m, only-unstarted N S S′ s t m)),
     ),
   ),
 )
-back-exact N S′ s′ (event.End t age) S = (
-  (λ d. let (l, (i, (r, (a, q)))) = end-passes N S′ S t age .0 d in
-      subst (λ (X : State). Lawful N X × Ends N X t (age .0) S′) q (from-unended N S′ s′ t (age .0) l i r a)),
+back-exact N begun S′ s′ (event.End t age) S = (
+  (λ d. let (l, (i, (o, (r, (a, q))))) = end-passes N begun S′ S t age .0 d in
+      subst (λ (X : State). Lawful N X × Ends N begun X t (age .0) S′) q (from-unended N S′ s′ t (age .0) l i o r a)),
   λ (s, m).
       let j : ℕ = age .0 in
       let c : j < width N = omega (arith, lfd-fits N t (m .known), m .timely .1) in
-      end-passes N S′ S t age .1 (
+      end-passes N begun S′ S t age .1 (
         m .known,
         (
           m .timely,
           (
-            (λ p b. omega (arith, m .marked p b)),
+            m .may-end,
             (
-              omega (arith, m .counted t j (m .known) c, one-here t j, s .counts-fit t j (m .known) c),
-              only-unended N S S′ s t j m,
+              (λ p b. omega (arith, m .marked p b)),
+              (
+                omega (arith, m .counted t j (m .known) c, one-here t j, s .counts-fit t j (m .known) c),
+                only-unended N S S′ s t j m,
+              ),
             ),
           ),
         ),
       ),
 )
-back-exact N S′ s′ event.Malformed S = ((λ d. never (sym d)), λ (s, m). absurd m)
+back-exact N begun S′ s′ event.Malformed S = ((λ d. never (sym d)), λ (s, m). absurd m)
 
 -- DEMAND 3: `back` is done with S exactly if S is lawful and `apply` leads from S to S′
-pub back-undoes : (N : Net) (S′ : State) → Lawful N S′ → (e : Event) (S : State)
-    → (back N S′ e ≡ done S) ↔ (Lawful N S × (apply N S e ≡ done S′))
-back-undoes N S′ s′ e S = (
-  (λ d. let (s, m) = back-exact N S′ s′ e S .0 d in (s, apply-exact N S e S′ .1 m)),
-  λ (s, d). back-exact N S′ s′ e S .1 (s, apply-exact N S e S′ .0 d),
+pub back-undoes : (N : Net) (begun : Bool) (S′ : State) → Lawful N S′ → (e : Event) (S : State)
+    → (back N begun S′ e ≡ done S) ↔ (Lawful N S × (apply N begun S e ≡ done S′))
+back-undoes N begun S′ s′ e S = (
+  (λ d. let (s, m) = back-exact N begun S′ s′ e S .0 d in (s, apply-exact N begun S e S′ .1 m)),
+  λ (s, d). back-exact N begun S′ s′ e S .1 (s, apply-exact N begun S e S′ .0 d),
 )
 
 -- and there is never a second such S
-pub apply-injective : (N : Net) (e : Event) (S₁ S₂ S′ : State) → Lawful N S₁ → Lawful N S₂
-    → apply N S₁ e ≡ done S′ → apply N S₂ e ≡ done S′ → S₁ ≡ S₂
-apply-injective N e S₁ S₂ S′ s₁ s₂ d₁ d₂ =
-    let s′ = moves-lawful e s₁ (apply-exact N S₁ e S′ .0 d₁) in
-    let b₁ = back-undoes N S′ s′ e S₁ .1 (s₁, d₁) in
-    let b₂ = back-undoes N S′ s′ e S₂ .1 (s₂, d₂) in
+pub apply-injective : (N : Net) (begun : Bool) (e : Event) (S₁ S₂ S′ : State) → Lawful N S₁ → Lawful N S₂
+    → apply N begun S₁ e ≡ done S′ → apply N begun S₂ e ≡ done S′ → S₁ ≡ S₂
+apply-injective N begun e S₁ S₂ S′ s₁ s₂ d₁ d₂ =
+    let s′ = moves-lawful begun e s₁ (apply-exact N begun S₁ e S′ .0 d₁) in
+    let b₁ = back-undoes N begun S′ s′ e S₁ .1 (s₁, d₁) in
+    let b₂ = back-undoes N begun S′ s′ e S₂ .1 (s₂, d₂) in
     cc
 
 -- lawful states stay lawful, forward and back
-pub apply-lawful : (N : Net) (S : State) (e : Event) (S′ : State) → Lawful N S → apply N S e ≡ done S′ → Lawful N S′
-apply-lawful N S e S′ s d = moves-lawful e s (apply-exact N S e S′ .0 d)
+pub apply-lawful : (N : Net) (begun : Bool) (S : State) (e : Event) (S′ : State) → Lawful N S
+    → apply N begun S e ≡ done S′ → Lawful N S′
+apply-lawful N begun S e S′ s d = moves-lawful begun e s (apply-exact N begun S e S′ .0 d)
 
-pub back-lawful : (N : Net) (S′ : State) (e : Event) (S : State) → Lawful N S′ → back N S′ e ≡ done S → Lawful N S
-back-lawful N S′ e S s′ d = back-undoes N S′ s′ e S .0 d .0
+pub back-lawful : (N : Net) (begun : Bool) (S′ : State) (e : Event) (S : State) → Lawful N S′
+    → back N begun S′ e ≡ done S → Lawful N S
+back-lawful N begun S′ e S s′ d = back-undoes N begun S′ s′ e S .0 d .0

@@ -2,7 +2,7 @@
 -- it into each case.
 -- Assumes nothing.
 use mathlib.Core.Path.{_≡_, refl, ap₂}
-use mathlib.Core.Bool.{Bool, true, false, _&&_}
+use mathlib.Core.Bool.{Bool, true, false, not, _&&_}
 use mathlib.Core.List.{List, [], _∷_}
 use Prim.Native.Nat.{ℕ}
 use lib.Dec.{T, eqb, eqb→eq}
@@ -11,8 +11,9 @@ use Rattle.model.specs.Answer.{numberOfStanding}
 use Rattle.model.specs.Tab.{tab, all, largest, least, howMany, lowest, one}
 use Rattle.model.specs.Net.{width, State, tokens, count, build, initialState}
 use Rattle.model.specs.Rules.{lackingPlace, enabled?, short, no-start-owed?, no-end-owed?, nothing-running?, timely?, has-room?, covers?, none-fresh?}
+use Rattle.model.specs.Rules.{may-end?, owes-no-old-end?, no-old-end-owed?}
 use Rattle.model.specs.Rules.{older, started, ended, ticked, unstarted, unended, unticked, apply, back, times, degree}
-use Rattle.model.specs.Run.{RunTold, WalkTold, EventTold, BackTold, toldEvent, toldBack, inTurn, run, walkBack, walk}
+use Rattle.model.specs.Run.{RunTold, WalkTold, EventTold, BackTold, toldEvent, toldBack, startedAfter, turns, inTurn, run, walkBack, walk}
 use Rattle.model.specs.Owed.{owes-start?, owes-end?, standingOf, owed}
 use Rattle.model.specs.Cases.{childrensRow, heavy, slowMiddle, threefold, Case, runs, walks, does, undoes, has-degree, has-width, owes, digest, Holds, AllHold, cases, furtherCases}
 
@@ -72,14 +73,28 @@ sameTold-sound r r′ t =
 runNumbers : RunTold → List ℕ
 runNumbers r = r .number ∷ r .index ∷ r .done ∷ r .ticks ∷ r .short .place ∷ r .short .lacks ∷ []
 
+sameBool : Bool → Bool → Bool
+sameBool true b = b
+sameBool false b = not b
+
+sameBool-sound : (a b : Bool) → T (sameBool a b) → a ≡ b
+unfolding sameBool
+sameBool-sound true true t = refl
+sameBool-sound true false t = absurd t
+sameBool-sound false true t = absurd t
+sameBool-sound false false t = refl
+
 sameRun : RunTold → RunTold → Bool
-sameRun r r′ = sameList eqb (runNumbers r) (runNumbers r′) && sameState (r .state) (r′ .state)
+sameRun r r′ =
+    sameList eqb (runNumbers r) (runNumbers r′) && (sameBool (r .started) (r′ .started) && sameState (r .state) (r′ .state))
 
 sameRun-sound : (r r′ : RunTold) → T (sameRun r r′) → r ≡ r′
 unfolding sameRun runNumbers
 sameRun-sound r r′ t =
-    let (n, s) = both (sameList eqb (runNumbers r) (runNumbers r′)) (sameState (r .state) (r′ .state)) t in
+    let (n, fs) = both (sameList eqb (runNumbers r) (runNumbers r′)) (sameBool (r .started) (r′ .started) && sameState (r .state) (r′ .state)) t in
+    let (f, s) = both (sameBool (r .started) (r′ .started)) (sameState (r .state) (r′ .state)) fs in
     let p = sameList-sound eqb eqb→eq (runNumbers r) (runNumbers r′) n in
+    let b = sameBool-sound (r .started) (r′ .started) f in
     let q = sameState-sound (r .state) (r′ .state) s in
     λ i. record {
       number = getD (p i) 0 0;
@@ -87,6 +102,7 @@ sameRun-sound r r′ t =
       done = getD (p i) 2 0;
       ticks = getD (p i) 3 0;
       short = record { place = getD (p i) 4 0; lacks = getD (p i) 5 0 };
+      started = b i;
       state = q i;
     }
 
@@ -130,22 +146,22 @@ every f [] = true
 every f (x ∷ xs) = f x && every f xs
 
 holds? : Case → Bool
-holds? (runs N S es r s) = sameRun (run N S es) r && eqb (numberOfStanding (standingOf N (r .state))) s
-holds? (walks N S′ es n r) = sameTold (walk N S′ es n) r
-holds? (does N S e r) = sameEvent (toldEvent S (apply N S e)) r
-holds? (undoes N S′ e r) = sameBack (toldBack S′ (back N S′ e)) r
+holds? (runs N f S es r s) = sameRun (run N f S es) r && eqb (numberOfStanding (standingOf N (r .state))) s
+holds? (walks N f S′ es n r) = sameTold (walk N f S′ es n) r
+holds? (does N f S e r) = sameEvent (toldEvent S (apply N f S e)) r
+holds? (undoes N f S′ e r) = sameBack (toldBack S′ (back N f S′ e)) r
 holds? (has-degree N S t n) = eqb (degree N S t) n
 holds? (has-width N d) = eqb (width N) d
 holds? (owes N S r) = sameList eqb (digest (owed N S)) r
 
 holds-sound : (c : Case) → T (holds? c) → Holds c
 unfolding holds?
-holds-sound (runs N S es r s) t =
-    let (a, b) = both (sameRun (run N S es) r) (eqb (numberOfStanding (standingOf N (r .state))) s) t in
+holds-sound (runs N f S es r s) t =
+    let (a, b) = both (sameRun (run N f S es) r) (eqb (numberOfStanding (standingOf N (r .state))) s) t in
     (sameRun-sound _ _ a, eqb→eq _ _ b)
-holds-sound (walks N S′ es n r) t = sameTold-sound _ _ t
-holds-sound (does N S e r) t = sameEvent-sound _ _ t
-holds-sound (undoes N S′ e r) t = sameBack-sound _ _ t
+holds-sound (walks N f S′ es n r) t = sameTold-sound _ _ t
+holds-sound (does N f S e r) t = sameEvent-sound _ _ t
+holds-sound (undoes N f S′ e r) t = sameBack-sound _ _ t
 holds-sound (has-degree N S t n) h = eqb→eq _ _ h
 holds-sound (has-width N d) h = eqb→eq _ _ h
 holds-sound (owes N S r) t = sameList-sound eqb eqb→eq _ _ t
@@ -160,7 +176,7 @@ all-hold : T (every holds? cases && every holds? furtherCases)
 unfolding every holds? sameRun sameTold sameEvent sameBack sameState sameList runNumbers numbers eventNumbers backNumbers
     cases furtherCases childrensRow heavy slowMiddle threefold
     run walk walkBack inTurn owed owes-start? owes-end? standingOf degree times apply back started ended ticked unstarted unended unticked older
-    lackingPlace enabled? short no-start-owed? no-end-owed? nothing-running? timely? has-room? covers? none-fresh?
+    sameBool startedAfter turns may-end? owes-no-old-end? no-old-end-owed? lackingPlace enabled? short no-start-owed? no-end-owed? nothing-running? timely? has-room? covers? none-fresh?
     width tokens count build initialState tab all largest least howMany lowest one
 all-hold = tt
 
@@ -169,6 +185,6 @@ pub cases-hold : (length cases ≡ 12) × AllHold cases
 unfolding cases
 cases-hold = (refl, every-sound cases (both (every holds? cases) (every holds? furtherCases) all-hold .0))
 
-pub further-hold : (length furtherCases ≡ 50) × AllHold furtherCases
+pub further-hold : (length furtherCases ≡ 73) × AllHold furtherCases
 unfolding furtherCases
 further-hold = (refl, every-sound furtherCases (both (every holds? cases) (every holds? furtherCases) all-hold .1))

@@ -30,30 +30,30 @@ demand-2 N = record {
   short-just = just-short N;
   log-accepted = run-accepted N;
   log-leads = run-exact N;
-  log-told = λ S es r. ((λ e. subst (Ran N S es) (sym e) (run-ran N S es)), ran-only N S es r);
+  log-told = λ b S es r. ((λ e. subst (Ran N b S es) (sym e) (run-ran N b S es)), ran-only N b S es r);
   log-short = run-short N;
   owed-told = λ S r. ((λ e. subst (Reports N S) (sym e) (owed-reports N S)), λ h. reports-once N S h (owed-reports N S));
-  free-to-tick = λ S. Iff·trans (owed-standing N S standing.FreeToTick) (free-to-tick N S);
+  free-to-tick = λ b S. Iff·trans (owed-standing N S standing.FreeToTick) (free-to-tick N S b);
 }
 
 pub demand-3 : (N : Net) → Demand3 N
 demand-3 N = record {
-  succeeds = λ S′ s′ e. (
-    (λ (S, d). let (s, m) = back-exact N S′ s′ e S .0 d in (S, s, m)),
-    λ (S, s, m). (S, back-exact N S′ s′ e S .1 (s, m)),
+  succeeds = λ b S′ s′ e. (
+    (λ (S, d). let (s, m) = back-exact N b S′ s′ e S .0 d in (S, s, m)),
+    λ (S, s, m). (S, back-exact N b S′ s′ e S .1 (s, m)),
   );
-  never-a-second = λ S′ e (S₁, s₁, m₁) (S₂, s₂, m₂).
-      apply-injective N e S₁ S₂ S′ s₁ s₂ (apply-exact N S₁ e S′ .1 m₁) (apply-exact N S₂ e S′ .1 m₂);
-  yields = λ S′ s′ e (S, s, m). back-exact N S′ s′ e S .1 (s, m);
+  never-a-second = λ b S′ e (S₁, s₁, m₁) (S₂, s₂, m₂).
+      apply-injective N b e S₁ S₂ S′ s₁ s₂ (apply-exact N b S₁ e S′ .1 m₁) (apply-exact N b S₂ e S′ .1 m₂);
+  yields = λ b S′ s′ e (S, s, m). back-exact N b S′ s′ e S .1 (s, m);
   back-refused = back-refuses N;
   no-state-before = no-state-before N;
   walked-back = walk-back N;
   walk-accepted = walk-exact N;
   walk-refused = walk-refused N;
   walk-no-state-before = walk-no-state-before N;
-  walk-told = λ S′ s′ es n r. (
-    (λ e. subst (Walked N S′ es n) (sym e) (walk-walked N S′ s′ es n)),
-    walked-only N S′ s′ es n r,
+  walk-told = λ b S′ s′ es n r. (
+    (λ e. subst (Walked N b S′ es n) (sym e) (walk-walked N b S′ s′ es n)),
+    walked-only N b S′ s′ es n r,
   );
 }
 
@@ -62,5 +62,5 @@ stays-lawful N = record {
   at-first = initial-lawful N;
   forward = apply-lawful N;
   backward = back-lawful N;
-  after-run = λ S es s. leads-lawful s (run-ran N S es .led);
+  after-run = λ b S es s. leads-lawful s (run-ran N b S es .led);
 }

@@ -13,6 +13,8 @@ use Rattle.model.proofs.age.Column.age.Reads as column-age
 use Rattle.model.proofs.age.Column.age.Kinds as column-age-kinds
 use Rattle.model.proofs.event.Event.of.Reads as event-of
 use Rattle.model.proofs.event.Event.of.Kinds as event-of-kinds
+use Rattle.model.proofs.event.Event.started_by.Reads as event-started-by
+use Rattle.model.proofs.event.Event.started_by.Kinds as event-started-by-kinds
 use Rattle.model.proofs.event.Event.first.Reads as event-first
 use Rattle.model.proofs.event.Event.first.Kinds as event-first-kinds
 use Rattle.model.proofs.event.Event.second.Reads as event-second
@@ -68,6 +70,9 @@ event-first-determined κs args x y s s′ p q = p ∙ sym q
 
 pub event-second-determined : Determined 0 event-second-kinds.ps event-second-kinds.r event-second.Learnt
 event-second-determined κs args x y s s′ p q = p ∙ sym q
+
+pub event-started-by-determined : Determined 0 event-started-by-kinds.ps event-started-by-kinds.r event-started-by.Learnt
+event-started-by-determined κs args x y s s′ p q = p ∙ sym q
 
 pub barrier-number-determined : Determined 0 barrier-number-kinds.ps barrier-number-kinds.r barrier-number.Learnt
 barrier-number-determined κs args x y s s′ p q = p ∙ sym q

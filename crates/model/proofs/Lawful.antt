@@ -1,15 +1,16 @@
 -- The rules lead from lawful states to lawful states, and the initial state is lawful.
 -- Assumes nothing.
 use mathlib.Core.Path.{_≡_, _∙_}
+use mathlib.Core.Bool.{Bool}
 use Prim.Native.Nat.{ℕ, zero, suc, _<_, _≤_}
 use native.Mathlib.Omega.{arith}
 use Rattle.model.specs.declared.event.Event.{Event}
 use Rattle.model.specs.declared.event.Event.the-variants as event
 use Rattle.model.specs.Limits.{Held, tokenLimit}
 use Rattle.model.specs.Net.{Net, Proper, State, Lawful, width, count, initialState}
-use Rattle.model.specs.Moves.{Starts, Ends, Ticks, Moves}
+use Rattle.model.specs.Moves.{NoOldEndOwed, Starts, Ends, Ticks, Moves}
 use Rattle.model.proofs.Tab.{at-or-below, below-or-past, one-off, one-room}
-use Rattle.model.proofs.Shape.{build-shaped, tokens-build, count-build, count-past}
+use Rattle.model.proofs.Shape.{lfd-fits, build-shaped, tokens-build, count-build, count-past}
 
 -- above the lfd every count is 0, in the matrix and past its columns
 pub zero-past-lfd : {N : Net} {S : State} → Lawful N S → (t j : ℕ) → t < N .transitions → N .lfd t < j → count S t j ≡ 0
@@ -35,7 +36,7 @@ starts-lawful {N} {S} {S′} {t} s m = record {
       omega (arith, m .counted u k b c, one-room (count S) tokenLimit t 0 u k (m .room) (s .counts-fit u k b c));
 }
 
-ends-lawful : {N : Net} {S S′ : State} {t j : ℕ} → Lawful N S → Ends N S t j S′ → Lawful N S′
+ends-lawful : {N : Net} {begun : Bool} {S S′ : State} {t j : ℕ} → Lawful N S → Ends N begun S t j S′ → Lawful N S′
 ends-lawful s m = record {
   shaped = m .shaped;
   none-past-lfd = λ u k b c h. omega (arith, m .counted u k b c, s .none-past-lfd u k b c h);
@@ -60,11 +61,22 @@ ticks-lawful {N} {S} {S′} s m = record {
     few t (suc j) b c = omega (arith, m .aged t j b c, s .counts-fit t j b (omega arith))
 
 -- an event leads from a lawful state to a lawful state
-pub moves-lawful : {N : Net} {S S′ : State} (e : Event) → Lawful N S → Moves N S e S′ → Lawful N S′
-moves-lawful event.Tick = ticks-lawful
-moves-lawful (event.Start t) = starts-lawful
-moves-lawful (event.End t age) = ends-lawful
-moves-lawful event.Malformed = λ s m. absurd m
+pub moves-lawful : {N : Net} (begun : Bool) {S S′ : State} (e : Event) → Lawful N S → Moves N begun S e S′ → Lawful N S′
+moves-lawful begun event.Tick = ticks-lawful
+moves-lawful begun (event.Start t) = starts-lawful
+moves-lawful begun (event.End t age) = ends-lawful
+moves-lawful begun event.Malformed = λ s m. absurd m
+
+-- THE ORDER OF A STEP: behind a start no end of age 1 or more is owed, up to the next tick
+
+-- a start changes no count of age 1 or more
+pub settles-start : {N : Net} {S S′ : State} {t : ℕ} → Starts N S t S′ → NoOldEndOwed N S′
+settles-start {N} {t = t} m u b h =
+    omega (arith, m .counted u (N .lfd u) b (lfd-fits N u b), m .no-old-end-owed u b h, one-off t 0 u (N .lfd u) (λ _ e. omega arith))
+
+-- and an end adds to none
+pub settles-end : {N : Net} {begun : Bool} {S S′ : State} {t j : ℕ} → NoOldEndOwed N S → Ends N begun S t j S′ → NoOldEndOwed N S′
+settles-end {N} o m u b h = omega (arith, m .counted u (N .lfd u) b (lfd-fits N u b), o u b h)
 
 -- a net's initial state is lawful
 pub initial-lawful : (N : Net) → Proper N → Lawful N (initialState N)

@@ -7,11 +7,13 @@ pub mod Ages
 pub mod Shape
 pub mod Forward
 pub mod Lawful
+pub mod Facts
 pub mod Back
 pub mod Refusals
 pub mod Tellings
 pub mod Turns
 pub mod Run
+pub mod Order
 pub mod Reversed
 pub mod Walk
 pub mod Degree

@@ -98,16 +98,16 @@ module _ (N : Net) (S : State) where
   standing-exact s = ((λ e. rw e at standing-stands), stands-once standing-stands)
 
   -- 'free to tick' holds exactly where a tick is accepted
-  pub free-to-tick : Stands N S standing.FreeToTick ↔ ((S′ : State) × (apply N S event.Tick ≡ done S′))
-  free-to-tick = (
+  pub free-to-tick : (begun : Bool) → Stands N S standing.FreeToTick ↔ ((S′ : State) × (apply N begun S event.Tick ≡ done S′))
+  free-to-tick begun = (
     free,
-    λ (S′, d). let m = apply-exact N S event.Tick S′ .0 d in
+    λ (S′, d). let m = apply-exact N begun S event.Tick S′ .0 d in
         Stands.free-to-tick (m .no-start-owed) (m .no-end-owed) (m .running),
   )
     where
-      free : Stands N S standing.FreeToTick → (S′ : State) × (apply N S event.Tick ≡ done S′)
+      free : Stands N S standing.FreeToTick → (S′ : State) × (apply N begun S event.Tick ≡ done S′)
       free (Stands.free-to-tick none none′ runs) =
-          (ticked N S, apply-exact N S event.Tick (ticked N S) .1 (ticks N S none none′ runs))
+          (ticked N S, apply-exact N begun S event.Tick (ticked N S) .1 (ticks N S none none′ runs))
 
   -- THE REPORT
 

@@ -25,8 +25,10 @@ pub refusal-number : {C : Type 0} (why : Refusal) → numberOfRefusal why ≡ 0 
 refusal-number refusal.Malformed e = absurd (omega arith)
 refusal-number refusal.NoSuchTransition e = absurd (omega arith)
 refusal-number (refusal.NotEnabled short) e = absurd (omega arith)
+refusal-number refusal.OldEndOwed e = absurd (omega arith)
 refusal-number refusal.CountFull e = absurd (omega arith)
 refusal-number refusal.OutsideInterval e = absurd (omega arith)
+refusal-number refusal.OldAfterStart e = absurd (omega arith)
 refusal-number refusal.NoneOfThatAge e = absurd (omega arith)
 refusal-number refusal.PlaceFull e = absurd (omega arith)
 refusal-number refusal.StartOwed e = absurd (omega arith)
@@ -46,15 +48,18 @@ named x =
     (cond (eqb n 13) (refusal.NotEnabled (x .short)) (cond (eqb n 14) refusal.CountFull
     (cond (eqb n 15) refusal.OutsideInterval (cond (eqb n 16) refusal.NoneOfThatAge
     (cond (eqb n 17) refusal.PlaceFull (cond (eqb n 18) refusal.StartOwed
-    (cond (eqb n 19) refusal.EndOwed (cond (eqb n 20) refusal.NothingRunning (refusal.OnlyBack (barrierNamed n)))))))))))
+    (cond (eqb n 19) refusal.EndOwed (cond (eqb n 20) refusal.NothingRunning
+    (cond (eqb n 28) refusal.OldAfterStart (cond (eqb n 29) refusal.OldEndOwed (refusal.OnlyBack (barrierNamed n)))))))))))))
 
 named-telling : (why : Refusal) → named (tellingOfRefusal why) ≡ why
 unfolding named barrierNamed
 named-telling refusal.Malformed = refl
 named-telling refusal.NoSuchTransition = refl
 named-telling (refusal.NotEnabled short) = refl
+named-telling refusal.OldEndOwed = refl
 named-telling refusal.CountFull = refl
 named-telling refusal.OutsideInterval = refl
+named-telling refusal.OldAfterStart = refl
 named-telling refusal.NoneOfThatAge = refl
 named-telling refusal.PlaceFull = refl
 named-telling refusal.StartOwed = refl
@@ -75,8 +80,10 @@ plainly : (why : Refusal) → ¬ (numberOfRefusal why ≡ 13) → tellingOfRefus
 plainly refusal.Malformed h = refl
 plainly refusal.NoSuchTransition h = refl
 plainly (refusal.NotEnabled short) h = absurd (h refl)
+plainly refusal.OldEndOwed h = refl
 plainly refusal.CountFull h = refl
 plainly refusal.OutsideInterval h = refl
+plainly refusal.OldAfterStart h = refl
 plainly refusal.NoneOfThatAge h = refl
 plainly refusal.PlaceFull h = refl
 plainly refusal.StartOwed h = refl

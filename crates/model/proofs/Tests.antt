@@ -11,10 +11,10 @@ use Rattle.model.specs.declared.answer.Refusal.{Refusal}
 use Rattle.model.specs.Tab.{Tells}
 use Rattle.model.specs.Limits.{Sized, sized?, IsInterval, interval?, Logged, logged?, Held, held?, placeLimit, transitionLimit, durationLimit, eventLimit, tokenLimit}
 use Rattle.model.specs.Net.{Net, State, width, tokens, count}
-use Rattle.model.specs.Moves.{Enabled, NoStartOwed, NoEndOwed, NothingRunning, Timely, HasRoom, Covers, NoneFresh}
-use Rattle.model.specs.Rules.{Outcome, done, refused, unless, lackingPlace, enabled?, no-start-owed?, no-end-owed?, nothing-running?, timely?, has-room?, covers?, none-fresh?}
+use Rattle.model.specs.Moves.{Enabled, NoStartOwed, NoEndOwed, NothingRunning, Timely, HasRoom, Covers, NoneFresh, MayEnd, NoOldEndOwed}
+use Rattle.model.specs.Rules.{Outcome, done, refused, unless, lackingPlace, enabled?, no-start-owed?, no-end-owed?, nothing-running?, timely?, has-room?, covers?, none-fresh?, may-end?, owes-no-old-end?, no-old-end-owed?}
 use Rattle.model.specs.Owed.{Lowest}
-use Rattle.model.proofs.Tab.{all-tells, both-tell, below-suc}
+use Rattle.model.proofs.Tab.{all-tells, both-tell, implies-tells, below-suc}
 use Rattle.model.proofs.Lowest.{lowest-is, lowest-once}
 
 pub leb-tells : (m n : ℕ) → Tells (leb m n) (m ≤ n)
@@ -54,6 +54,11 @@ held-tells n = leb-tells n tokenLimit
 pub timely-tells : (N : Net) (t j : ℕ) → Tells (timely? N t j) (Timely N t j)
 unfolding timely?
 timely-tells N t j = both-tell (leb-tells (N .sfd t) j) (leb-tells j (N .lfd t))
+
+pub may-end-tells : (started : Bool) (j : ℕ) → Tells (may-end? started j) (MayEnd started j)
+unfolding may-end?
+may-end-tells true j = eqb-tells j 0
+may-end-tells false j = record { sound = λ _. tt; complete = λ _. tt }
 
 module _ (N : Net) (S : State) where
   -- the place that the test finds is the lowest that has too few tokens
@@ -101,6 +106,11 @@ module _ (N : Net) (S : State) where
   pub none-fresh-tells : Tells (none-fresh? N S) (NoneFresh N S)
   unfolding none-fresh?
   none-fresh-tells = all-tells (N .transitions) (λ t. eqb-tells (count S t 0) 0)
+
+  pub no-old-end-owed-tells : Tells (no-old-end-owed? N S) (NoOldEndOwed N S)
+  unfolding no-old-end-owed? owes-no-old-end?
+  no-old-end-owed-tells =
+      all-tells (N .transitions) (λ t. implies-tells (leb-tells 1 (N .lfd t)) (eqb-tells (count S t (N .lfd t)) 0))
 
 -- WHAT A TEST TELLS IS DECIDED
 

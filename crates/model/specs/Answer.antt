@@ -1,5 +1,5 @@
--- The numbers for the answer to an event, done or taken back, with the place that 13 tells of, and for the standing: document 01's, and
--- 24 to 27 of request W4.
+-- The numbers for the answer to an event, done or taken back, with the place that 13 tells of, and for the standing: document 01's,
+-- 24 to 27 of request W4, 28 and 29 of W5.
 -- Assumes nothing.
 use Prim.Native.Nat.{ℕ}
 use Rattle.model.specs.declared.answer.Short.{Short}
@@ -37,8 +37,10 @@ abbrev pub tellingOfRefusal : Refusal → Telling
 tellingOfRefusal refusal.Malformed = plain 11
 tellingOfRefusal refusal.NoSuchTransition = plain 12
 tellingOfRefusal (refusal.NotEnabled short) = record { number = 13; short = short }
+tellingOfRefusal refusal.OldEndOwed = plain 29
 tellingOfRefusal refusal.CountFull = plain 14
 tellingOfRefusal refusal.OutsideInterval = plain 15
+tellingOfRefusal refusal.OldAfterStart = plain 28
 tellingOfRefusal refusal.NoneOfThatAge = plain 16
 tellingOfRefusal refusal.PlaceFull = plain 17
 tellingOfRefusal refusal.StartOwed = plain 18

@@ -8,6 +8,7 @@ pub mod Moves
 pub mod Refusals
 pub mod Rules
 pub mod Run
+pub mod Order
 pub mod Owed
 pub mod Demands
 pub mod Cases

@@ -1,7 +1,8 @@
--- The rules of the events as relations between two states: Definitions 4 and 5 of document 004, with document 01's limits and
--- the deadlock rule of Section 2.2.
+-- The rules of the events as relations between two states: Definitions 4 and 5 of document 004, with document 01's limits, and
+-- the deadlock rule and the order of a step of Section 2.2.
 -- Assumes nothing.
 use mathlib.Core.Path.{_≡_}
+use mathlib.Core.Bool.{Bool, true, false}
 use Prim.Native.Nat.{ℕ, suc, _+_, _*_, _<_, _≤_}
 use Rattle.model.specs.declared.event.Event.{Event}
 use Rattle.model.specs.declared.event.Event.the-variants as event
@@ -61,19 +62,43 @@ Covers N S fewer = (p : ℕ) → p < N .places → fewer p ≤ tokens S p
 abbrev pub NoneFresh : Net → State → Type 0
 NoneFresh N S = (t : ℕ) → t < N .transitions → count S t 0 ≡ 0
 
+-- THE ORDER OF A STEP (W5)
+-- Section 2.2: a global step "consists on two principal multisets, the first one is called Endstep and the second one is called
+-- Iteratedstep". "An Endstep at state S contains all endfire events which must occur at S and an arbitrary multiset of endfire
+-- events which may occur at S." "An Iteratedstep is an alternating sequence of multisets of startfire events (not necessarily
+-- maximal) and multisets of endfire events with zero duration (containing all must endfire ones)."
+
+-- whether a start has happened in the step, after an event
+abbrev pub startedBy : Bool → Event → Bool
+startedBy started event.Tick = false
+startedBy started (event.Start t) = true
+startedBy started (event.End t age) = started
+startedBy started event.Malformed = started
+
+-- a firing of age j may end: once a start has happened in the step, only one of age 0
+abbrev pub MayEnd : Bool → ℕ → Type 0
+MayEnd false j = Unit {0}
+MayEnd true j = j ≡ 0
+
+-- no end of age 1 or more is owed: a start may happen
+abbrev pub NoOldEndOwed : Net → State → Type 0
+NoOldEndOwed N S = (t : ℕ) → t < N .transitions → 1 ≤ N .lfd t → count S t (N .lfd t) ≡ 0
+
 -- Definition 5.1
 pub record Starts (N : Net) (S : State) (t : ℕ) (S′ : State) : Type 0 where
   pub known : t < N .transitions
   pub enabled : Enabled N S t 1
+  pub no-old-end-owed : NoOldEndOwed N S
   pub room : Held (suc (count S t 0))
   pub marked : (p : ℕ) → p < N .places → tokens S′ p + N .takes t p ≡ tokens S p
   pub counted : (u k : ℕ) → u < N .transitions → k < width N → count S′ u k ≡ count S u k + one t 0 u k
   pub shaped : Shaped N S′
 
 -- Definition 5.2
-pub record Ends (N : Net) (S : State) (t j : ℕ) (S′ : State) : Type 0 where
+pub record Ends (N : Net) (started : Bool) (S : State) (t j : ℕ) (S′ : State) : Type 0 where
   pub known : t < N .transitions
   pub timely : Timely N t j
+  pub may-end : MayEnd started j
   pub active : 1 ≤ count S t j
   pub room : HasRoom N S (N .gives t)
   pub marked : (p : ℕ) → p < N .places → tokens S′ p ≡ tokens S p + N .gives t p
@@ -90,9 +115,9 @@ pub record Ticks (N : Net) (S S′ : State) : Type 0 where
   pub aged : (t j : ℕ) → t < N .transitions → suc j < width N → count S′ t (suc j) ≡ count S t j
   pub shaped : Shaped N S′
 
--- S moves to S′ by the event
-abbrev pub Moves : Net → State → Event → State → Type 0
-Moves N S event.Tick S′ = Ticks N S S′
-Moves N S (event.Start t) S′ = Starts N S t S′
-Moves N S (event.End t age) S′ = Ends N S t (age .0) S′
-Moves N S event.Malformed S′ = ⊥
+-- S moves to S′ by the event, where a start has happened before in the step, or not
+abbrev pub Moves : Net → Bool → State → Event → State → Type 0
+Moves N started S event.Tick S′ = Ticks N S S′
+Moves N started S (event.Start t) S′ = Starts N S t S′
+Moves N started S (event.End t age) S′ = Ends N started S t (age .0) S′
+Moves N started S event.Malformed S′ = ⊥

@@ -1,7 +1,8 @@
--- The table of numbers for one event, document 01's and request W4's: which refusal is given exactly when. Each stands behind those
--- before it.
+-- The table of numbers for one event, document 01's and those of requests W4 and W5: which refusal is given exactly when, where a start
+-- has happened before in the step, or not. Each stands behind those before it.
 -- Assumes nothing.
 use mathlib.Core.Path.{_≡_}
+use mathlib.Core.Bool.{Bool}
 use Prim.Native.Nat.{ℕ, suc, _-_, _<_, _≤_}
 use Rattle.model.specs.declared.age.Age.{Age}
 use Rattle.model.specs.declared.event.Event.{Event}
@@ -12,7 +13,7 @@ use Rattle.model.specs.declared.answer.Refusal.{Refusal}
 use Rattle.model.specs.declared.answer.Refusal.the-variants as refusal
 use Rattle.model.specs.Limits.{Held}
 use Rattle.model.specs.Net.{Net, State, count}
-use Rattle.model.specs.Moves.{Enabled, EnoughWith, Lacks, NoStartOwed, NoEndOwed, NothingRunning, Timely, HasRoom, Covers, NoneFresh}
+use Rattle.model.specs.Moves.{Enabled, EnoughWith, Lacks, NoStartOwed, NoEndOwed, NothingRunning, Timely, HasRoom, Covers, NoneFresh, MayEnd, NoOldEndOwed}
 
 -- 11 and 12, told of an event done and of one taken back
 pub data Unfit (N : Net) : Event → Refusal → Type 0 where
@@ -36,35 +37,44 @@ abbrev pub JustShort : Net → State → Event → Short → Type 0
 JustShort N S e short = (t : ℕ) × (e ≡ event.Start t)
     × EnoughWith N S t (short .place) (short .lacks) × ¬ EnoughWith N S t (short .place) (short .lacks - 1)
 
--- 11 to 20: the event is refused in S, and why
-pub data Refuses (N : Net) (S : State) : Event → Refusal → Type 0 where
-  unfit : {e : Event} {why : Refusal} → Unfit N e why → Refuses N S e why
-  not-enabled : {e : Event} {short : Short} → FallsShort N S e short → Refuses N S e (refusal.NotEnabled short)
-  count-full : {t : ℕ} → t < N .transitions → Enabled N S t 1
-      → ¬ Held (suc (count S t 0)) → Refuses N S (event.Start t) refusal.CountFull
+-- 11 and 12; of a start 13, 29, 14; of an end 15, 28, 16, 17; of a tick 18, 19, 20. The event is refused in S, and why
+pub data Refuses (N : Net) (started : Bool) (S : State) : Event → Refusal → Type 0 where
+  unfit : {e : Event} {why : Refusal} → Unfit N e why → Refuses N started S e why
+  not-enabled : {e : Event} {short : Short} → FallsShort N S e short → Refuses N started S e (refusal.NotEnabled short)
+  old-end-owed : {t : ℕ} → t < N .transitions → Enabled N S t 1
+      → ¬ NoOldEndOwed N S → Refuses N started S (event.Start t) refusal.OldEndOwed
+  count-full : {t : ℕ} → t < N .transitions → Enabled N S t 1 → NoOldEndOwed N S
+      → ¬ Held (suc (count S t 0)) → Refuses N started S (event.Start t) refusal.CountFull
   outside-interval : {t : ℕ} {age : Age} → t < N .transitions
-      → ¬ Timely N t (age .0) → Refuses N S (event.End t age) refusal.OutsideInterval
-  none-of-that-age : {t : ℕ} {age : Age} → t < N .transitions → Timely N t (age .0)
-      → ¬ (1 ≤ count S t (age .0)) → Refuses N S (event.End t age) refusal.NoneOfThatAge
-  place-full : {t : ℕ} {age : Age} → t < N .transitions → Timely N t (age .0) → 1 ≤ count S t (age .0)
-      → ¬ HasRoom N S (N .gives t) → Refuses N S (event.End t age) refusal.PlaceFull
-  start-owed : ¬ NoStartOwed N S → Refuses N S event.Tick refusal.StartOwed
-  end-owed : NoStartOwed N S → ¬ NoEndOwed N S → Refuses N S event.Tick refusal.EndOwed
-  nothing-running : NoStartOwed N S → NoEndOwed N S → NothingRunning N S → Refuses N S event.Tick refusal.NothingRunning
+      → ¬ Timely N t (age .0) → Refuses N started S (event.End t age) refusal.OutsideInterval
+  old-after-start : {t : ℕ} {age : Age} → t < N .transitions → Timely N t (age .0)
+      → ¬ MayEnd started (age .0) → Refuses N started S (event.End t age) refusal.OldAfterStart
+  none-of-that-age : {t : ℕ} {age : Age} → t < N .transitions → Timely N t (age .0) → MayEnd started (age .0)
+      → ¬ (1 ≤ count S t (age .0)) → Refuses N started S (event.End t age) refusal.NoneOfThatAge
+  place-full : {t : ℕ} {age : Age} → t < N .transitions → Timely N t (age .0) → MayEnd started (age .0) → 1 ≤ count S t (age .0)
+      → ¬ HasRoom N S (N .gives t) → Refuses N started S (event.End t age) refusal.PlaceFull
+  start-owed : ¬ NoStartOwed N S → Refuses N started S event.Tick refusal.StartOwed
+  end-owed : NoStartOwed N S → ¬ NoEndOwed N S → Refuses N started S event.Tick refusal.EndOwed
+  nothing-running : NoStartOwed N S → NoEndOwed N S → NothingRunning N S → Refuses N started S event.Tick refusal.NothingRunning
 
--- 11, 12, and request W4's: of a tick 21, 18, 20; of a start 24, 25; of an end 15, 26, 27. The event cannot be taken back from S′, and why
-pub data Barred (N : Net) (S′ : State) : Event → Refusal → Type 0 where
-  unfit : {e : Event} {why : Refusal} → Unfit N e why → Barred N S′ e why
-  some-fresh : ¬ NoneFresh N S′ → Barred N S′ event.Tick (refusal.OnlyBack barrier.SomeFresh)
-  start-owed : NoneFresh N S′ → ¬ NoStartOwed N S′ → Barred N S′ event.Tick refusal.StartOwed
-  nothing-running : NoneFresh N S′ → NoStartOwed N S′ → NothingRunning N S′ → Barred N S′ event.Tick refusal.NothingRunning
+-- 11 and 12; of a tick 21, 18, 20; of a start 24, 25, 29; of an end 15, 28, 26, 27. The event cannot be taken back from S′, and why;
+-- `started` speaks of the state before it. A start changes no count of age 1 or more, so an end of that age is owed in S′ where it was before
+pub data Barred (N : Net) (started : Bool) (S′ : State) : Event → Refusal → Type 0 where
+  unfit : {e : Event} {why : Refusal} → Unfit N e why → Barred N started S′ e why
+  some-fresh : ¬ NoneFresh N S′ → Barred N started S′ event.Tick (refusal.OnlyBack barrier.SomeFresh)
+  start-owed : NoneFresh N S′ → ¬ NoStartOwed N S′ → Barred N started S′ event.Tick refusal.StartOwed
+  nothing-running : NoneFresh N S′ → NoStartOwed N S′ → NothingRunning N S′ → Barred N started S′ event.Tick refusal.NothingRunning
   none-started : {t : ℕ} → t < N .transitions
-      → ¬ (1 ≤ count S′ t 0) → Barred N S′ (event.Start t) (refusal.OnlyBack barrier.NoneStarted)
+      → ¬ (1 ≤ count S′ t 0) → Barred N started S′ (event.Start t) (refusal.OnlyBack barrier.NoneStarted)
   place-overfull : {t : ℕ} → t < N .transitions → 1 ≤ count S′ t 0
-      → ¬ HasRoom N S′ (N .takes t) → Barred N S′ (event.Start t) (refusal.OnlyBack barrier.PlaceOverfull)
+      → ¬ HasRoom N S′ (N .takes t) → Barred N started S′ (event.Start t) (refusal.OnlyBack barrier.PlaceOverfull)
+  old-end-owed : {t : ℕ} → t < N .transitions → 1 ≤ count S′ t 0 → HasRoom N S′ (N .takes t)
+      → ¬ NoOldEndOwed N S′ → Barred N started S′ (event.Start t) refusal.OldEndOwed
   outside-interval : {t : ℕ} {age : Age} → t < N .transitions
-      → ¬ Timely N t (age .0) → Barred N S′ (event.End t age) refusal.OutsideInterval
-  too-few-tokens : {t : ℕ} {age : Age} → t < N .transitions → Timely N t (age .0)
-      → ¬ Covers N S′ (N .gives t) → Barred N S′ (event.End t age) (refusal.OnlyBack barrier.TooFewTokens)
-  count-overfull : {t : ℕ} {age : Age} → t < N .transitions → Timely N t (age .0) → Covers N S′ (N .gives t)
-      → ¬ Held (suc (count S′ t (age .0))) → Barred N S′ (event.End t age) (refusal.OnlyBack barrier.CountOverfull)
+      → ¬ Timely N t (age .0) → Barred N started S′ (event.End t age) refusal.OutsideInterval
+  old-after-start : {t : ℕ} {age : Age} → t < N .transitions → Timely N t (age .0)
+      → ¬ MayEnd started (age .0) → Barred N started S′ (event.End t age) refusal.OldAfterStart
+  too-few-tokens : {t : ℕ} {age : Age} → t < N .transitions → Timely N t (age .0) → MayEnd started (age .0)
+      → ¬ Covers N S′ (N .gives t) → Barred N started S′ (event.End t age) (refusal.OnlyBack barrier.TooFewTokens)
+  count-overfull : {t : ℕ} {age : Age} → t < N .transitions → Timely N t (age .0) → MayEnd started (age .0) → Covers N S′ (N .gives t)
+      → ¬ Held (suc (count S′ t (age .0))) → Barred N started S′ (event.End t age) (refusal.OnlyBack barrier.CountOverfull)

@@ -12,7 +12,7 @@ use Rattle.model.specs.declared.answer.Refusal.{Refusal}
 use Rattle.model.specs.declared.answer.Refusal.the-variants as refusal
 use Rattle.model.specs.declared.answer.Answer.{Answer}
 use Rattle.model.specs.declared.answer.Answer.the-variants as answer
-use Rattle.model.specs.Tab.{all, one, least, lowest}
+use Rattle.model.specs.Tab.{implies, all, one, least, lowest}
 use Rattle.model.specs.Limits.{held?, tokenLimit}
 use Rattle.model.specs.Net.{Net, State, width, tokens, count, build}
 
@@ -69,7 +69,16 @@ timely? N t j = leb (N .sfd t) j && leb j (N .lfd t)
 unfoldable pub has-room? : Net → State → (ℕ → ℕ) → Bool
 has-room? N S more = all (N .places) (λ p. held? (tokens S p + more p))
 
--- ONE EVENT DONE
+unfoldable pub may-end? : Bool → ℕ → Bool
+may-end? started j = implies started (eqb j 0)
+
+unfoldable pub owes-no-old-end? : Net → State → ℕ → Bool
+owes-no-old-end? N S t = implies (leb 1 (N .lfd t)) (eqb (count S t (N .lfd t)) 0)
+
+unfoldable pub no-old-end-owed? : Net → State → Bool
+no-old-end-owed? N S = all (N .transitions) (owes-no-old-end? N S)
+
+-- ONE EVENT DONE. `begun`: a start has happened before in the step
 
 unfoldable pub started : Net → State → ℕ → State
 started N S t = build N (λ p. tokens S p - N .takes t p) (λ u k. count S u k + one t 0 u k)
@@ -85,24 +94,26 @@ older h t (suc j) = h t j
 unfoldable pub ticked : Net → State → State
 ticked N S = build N (tokens S) (older (count S))
 
--- 11 to 20
-unfoldable pub apply : Net → State → Event → Outcome
-apply N S event.Tick =
+-- 11 and 12; of a tick 18, 19, 20; of a start 13, 29, 14; of an end 15, 28, 16, 17
+unfoldable pub apply : Net → Bool → State → Event → Outcome
+apply N begun S event.Tick =
     unless (no-start-owed? N S) refusal.StartOwed
     (unless (no-end-owed? N S) refusal.EndOwed
     (unless (not (nothing-running? N S)) refusal.NothingRunning (done (ticked N S))))
-apply N S (event.Start t) =
+apply N begun S (event.Start t) =
     unless (ltb t (N .transitions)) refusal.NoSuchTransition
     (unless (enabled? N S t) (refusal.NotEnabled (short N S t))
-    (unless (held? (suc (count S t 0))) refusal.CountFull (done (started N S t))))
-apply N S (event.End t age) =
+    (unless (no-old-end-owed? N S) refusal.OldEndOwed
+    (unless (held? (suc (count S t 0))) refusal.CountFull (done (started N S t)))))
+apply N begun S (event.End t age) =
     unless (ltb t (N .transitions)) refusal.NoSuchTransition
     (unless (timely? N t (age .0)) refusal.OutsideInterval
+    (unless (may-end? begun (age .0)) refusal.OldAfterStart
     (unless (leb 1 (count S t (age .0))) refusal.NoneOfThatAge
-    (unless (has-room? N S (N .gives t)) refusal.PlaceFull (done (ended N S t (age .0))))))
-apply N S event.Malformed = refused refusal.Malformed
+    (unless (has-room? N S (N .gives t)) refusal.PlaceFull (done (ended N S t (age .0)))))))
+apply N begun S event.Malformed = refused refusal.Malformed
 
--- ONE EVENT TAKEN BACK: S′ is the state that it led to
+-- ONE EVENT TAKEN BACK: S′ is the state that it led to; `begun` speaks of the state before it
 
 unfoldable pub covers? : Net → State → (ℕ → ℕ) → Bool
 covers? N S′ fewer = all (N .places) (λ p. leb (fewer p) (tokens S′ p))
@@ -120,22 +131,24 @@ unended N S′ t j = build N (λ p. tokens S′ p - N .gives t p) (λ u k. count
 unfoldable pub unticked : Net → State → State
 unticked N S′ = build N (tokens S′) (λ t j. count S′ t (suc j))
 
--- 11 and 12; of a tick 21, 18, 20; of a start 24, 25; of an end 15, 26, 27
-unfoldable pub back : Net → State → Event → Outcome
-back N S′ event.Tick =
+-- 11 and 12; of a tick 21, 18, 20; of a start 24, 25, 29; of an end 15, 28, 26, 27
+unfoldable pub back : Net → Bool → State → Event → Outcome
+back N begun S′ event.Tick =
     unless (none-fresh? N S′) (refusal.OnlyBack barrier.SomeFresh)
     (unless (no-start-owed? N S′) refusal.StartOwed
     (unless (not (nothing-running? N S′)) refusal.NothingRunning (done (unticked N S′))))
-back N S′ (event.Start t) =
+back N begun S′ (event.Start t) =
     unless (ltb t (N .transitions)) refusal.NoSuchTransition
     (unless (leb 1 (count S′ t 0)) (refusal.OnlyBack barrier.NoneStarted)
-    (unless (has-room? N S′ (N .takes t)) (refusal.OnlyBack barrier.PlaceOverfull) (done (unstarted N S′ t))))
-back N S′ (event.End t age) =
+    (unless (has-room? N S′ (N .takes t)) (refusal.OnlyBack barrier.PlaceOverfull)
+    (unless (no-old-end-owed? N S′) refusal.OldEndOwed (done (unstarted N S′ t)))))
+back N begun S′ (event.End t age) =
     unless (ltb t (N .transitions)) refusal.NoSuchTransition
     (unless (timely? N t (age .0)) refusal.OutsideInterval
+    (unless (may-end? begun (age .0)) refusal.OldAfterStart
     (unless (covers? N S′ (N .gives t)) (refusal.OnlyBack barrier.TooFewTokens)
-    (unless (held? (suc (count S′ t (age .0)))) (refusal.OnlyBack barrier.CountOverfull) (done (unended N S′ t (age .0))))))
-back N S′ event.Malformed = refused refusal.Malformed
+    (unless (held? (suc (count S′ t (age .0)))) (refusal.OnlyBack barrier.CountOverfull) (done (unended N S′ t (age .0)))))))
+back N begun S′ event.Malformed = refused refusal.Malformed
 
 -- THE DEGREE
 

@@ -10,6 +10,10 @@ pub record Tells (b : Bool) (A : Type 0) : Type 0 where
   pub sound : T b → A
   pub complete : A → T b
 
+-- where a passes, b does
+abbrev pub implies : Bool → Bool → Bool
+implies a b = cond a b true
+
 -- the list f 0, f 1, .., f (n - 1)
 unfoldable pub tab : {A : Type 0} → ℕ → (ℕ → A) → List A
 tab zero f = []

@@ -1,4 +1,4 @@
-// What one event answers, done or taken back, and its number: document 01's, and 24 to 27 of request W4.
+// What one event answers, done or taken back, and its number: document 01's, 24 to 27 of request W4, 28 and 29 of W5.
 ghost use mathlib.Core.Path.{_≡_};
 ghost use Rattle.model.specs.Answer.{nothingShort, numberOfBarrier, numberOfRefusal, shortOfRefusal, numberOf, shortOf, numberOfStanding};
 
@@ -50,18 +50,20 @@ pub enum Refusal {
     Malformed,
     // 12: the net has no such transition.
     NoSuchTransition,
-    // 13, 14: of a start. 13 tells the lowest place that is short.
+    // 13, 29, 14: of a start. 13 tells the lowest place that is short; 29, that an end of age 1 or more is owed, and comes first.
     NotEnabled(Short),
+    OldEndOwed,
     CountFull,
-    // 15, 16, 17: of an end.
+    // 15, 28, 16, 17: of an end. 28: a start has happened in the step, and the firing is of age 1 or more.
     OutsideInterval,
+    OldAfterStart,
     NoneOfThatAge,
     PlaceFull,
     // 18, 19, 20: of a tick.
     StartOwed,
     EndOwed,
     NothingRunning,
-    // 21, 24 to 27: of a step back alone. It also tells 11, 12, 15, 18 and 20.
+    // 21, 24 to 27: of a step back alone. It also tells 11, 12, 15, 18, 20, 28 and 29.
     OnlyBack(Barrier),
 }
 
@@ -73,8 +75,10 @@ impl Refusal {
             Refusal::Malformed => 11,
             Refusal::NoSuchTransition => 12,
             Refusal::NotEnabled(_) => 13,
+            Refusal::OldEndOwed => 29,
             Refusal::CountFull => 14,
             Refusal::OutsideInterval => 15,
+            Refusal::OldAfterStart => 28,
             Refusal::NoneOfThatAge => 16,
             Refusal::PlaceFull => 17,
             Refusal::StartOwed => 18,
@@ -92,8 +96,10 @@ impl Refusal {
             Refusal::Malformed => Short::nothing(),
             Refusal::NoSuchTransition => Short::nothing(),
             Refusal::NotEnabled(short) => short,
+            Refusal::OldEndOwed => Short::nothing(),
             Refusal::CountFull => Short::nothing(),
             Refusal::OutsideInterval => Short::nothing(),
+            Refusal::OldAfterStart => Short::nothing(),
             Refusal::NoneOfThatAge => Short::nothing(),
             Refusal::PlaceFull => Short::nothing(),
             Refusal::StartOwed => Short::nothing(),

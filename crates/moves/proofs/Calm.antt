@@ -1,6 +1,7 @@
 -- Behind a tick, done or taken back, no start is owed and something is running: the marking is as it was, and so are the firings.
 -- Assumes nothing.
 use mathlib.Core.Path.{_≡_, refl, sym, _∙_}
+use mathlib.Core.Bool.{Bool}
 use mathlib.Core.List.{List}
 use Prim.Native.Nat.{ℕ, suc, _<_, _≤_}
 use native.Mathlib.Omega.{arith}
@@ -58,20 +59,20 @@ module _ (net : List ℕ) (shape : Shape) (b : List ℕ) (f : Framed net shape b
   lawful : Lawful (netOf net) (stored net b)
   lawful = state-lawful (netOf net) b small (f .is-state)
 
-  pub tick-settles : answerOf (applied net b event.Tick) ≡ answer.Done → Settled net (after (netOf net) (applied net b event.Tick) b)
-  tick-settles said =
-      let S′ = stateAfter S₀ (applied net b event.Tick) in
-      let k = apply-exact N₀ S₀ event.Tick S′ .0 (done-by S₀ (applied net b event.Tick) said) in
-      rw (after-stored net shape b f small event.Tick) (
+  pub tick-settles : (started : Bool) → answerOf (applied net started b event.Tick) ≡ answer.Done → Settled net (after (netOf net) (applied net started b event.Tick) b)
+  tick-settles started said =
+      let S′ = stateAfter S₀ (applied net started b event.Tick) in
+      let k = apply-exact N₀ started S₀ event.Tick S′ .0 (done-by S₀ (applied net started b event.Tick) said) in
+      rw (after-stored net shape b f small started event.Tick) (
         told-true (no-start-owed-tells N₀ S′) (still-calm N₀ S₀ S′ lawful k),
         told-false (nothing-running-tells N₀ S′) (still-runs N₀ S₀ S′ lawful k),
       )
 
-  pub untick-settles : answerOf (takenBack net b event.Tick) ≡ answer.Done → Settled net (after (netOf net) (takenBack net b event.Tick) b)
-  untick-settles said =
-      let S = stateAfter S₀ (takenBack net b event.Tick) in
-      let k = back-exact N₀ S₀ lawful event.Tick S .0 (done-by S₀ (takenBack net b event.Tick) said) .1 in
-      rw (back-after-stored net shape b f small event.Tick) (
+  pub untick-settles : (started : Bool) → answerOf (takenBack net started b event.Tick) ≡ answer.Done → Settled net (after (netOf net) (takenBack net started b event.Tick) b)
+  untick-settles started said =
+      let S = stateAfter S₀ (takenBack net started b event.Tick) in
+      let k = back-exact N₀ started S₀ lawful event.Tick S .0 (done-by S₀ (takenBack net started b event.Tick) said) .1 in
+      rw (back-after-stored net shape b f small started event.Tick) (
         told-true (no-start-owed-tells N₀ S) (k .no-start-owed),
         told-false (nothing-running-tells N₀ S) (k .running),
       )

@@ -27,6 +27,24 @@ use Rattle.moves.proofs.firing.end.Reads as end
 use Rattle.moves.proofs.firing.end.Kinds as end-kinds
 use Rattle.moves.proofs.firing.unend.Reads as unend
 use Rattle.moves.proofs.firing.unend.Kinds as unend-kinds
+use Rattle.moves.proofs.marking.has_room.Reads as has-room
+use Rattle.moves.proofs.marking.has_room.Kinds as has-room-kinds
+use Rattle.moves.proofs.firing.timely.Reads as timely
+use Rattle.moves.proofs.firing.timely.Kinds as timely-kinds
+use Rattle.moves.proofs.order.Step.given.Reads as step-given
+use Rattle.moves.proofs.order.Step.given.Kinds as step-given-kinds
+use Rattle.moves.proofs.order.Step.behind.Reads as step-behind
+use Rattle.moves.proofs.order.Step.behind.Kinds as step-behind-kinds
+use Rattle.moves.proofs.order.clear_before.Reads as clear-before
+use Rattle.moves.proofs.order.clear_before.Kinds as clear-before-kinds
+use Rattle.moves.proofs.order.start.Reads as ordered-start
+use Rattle.moves.proofs.order.start.Kinds as ordered-start-kinds
+use Rattle.moves.proofs.order.unstart.Reads as ordered-unstart
+use Rattle.moves.proofs.order.unstart.Kinds as ordered-unstart-kinds
+use Rattle.moves.proofs.order.end.Reads as ordered-end
+use Rattle.moves.proofs.order.end.Kinds as ordered-end-kinds
+use Rattle.moves.proofs.order.unend.Reads as ordered-unend
+use Rattle.moves.proofs.order.unend.Kinds as ordered-unend-kinds
 use Rattle.moves.proofs.event.apply.Reads as apply
 use Rattle.moves.proofs.event.apply.Kinds as apply-kinds
 use Rattle.moves.proofs.event.back.Reads as back
@@ -92,6 +110,45 @@ unend-determined κs args x y s s′ p q = p .0 ∙ sym (q .0)
 
 pub unend-leaves : LeavesOne 2 unend-kinds.ps unend-kinds.r unend.Learnt (λ κs s. now (s .1 .1 .0))
 unend-leaves κs args x y s s′ p q = p .1 ∙ sym (q .1)
+
+pub has-room-determined : Determined 2 has-room-kinds.ps has-room-kinds.r has-room.Learnt
+has-room-determined κs args x y s s′ p q = p ∙ sym q
+
+pub timely-determined : Determined 1 timely-kinds.ps timely-kinds.r timely.Learnt
+timely-determined κs args x y s s′ p q = p ∙ sym q
+
+pub step-given-determined : Determined 0 step-given-kinds.ps step-given-kinds.r step-given.Learnt
+step-given-determined κs args x y s s′ p q = p ∙ sym q
+
+pub step-behind-determined : Determined 0 step-behind-kinds.ps step-behind-kinds.r step-behind.Learnt
+step-behind-determined κs args x y s s′ p q = p ∙ sym q
+
+pub clear-before-determined : Determined 0 clear-before-kinds.ps clear-before-kinds.r clear-before.Learnt
+clear-before-determined κs args x y s s′ p q = p ∙ sym q
+
+pub ordered-start-determined : Determined 2 ordered-start-kinds.ps ordered-start-kinds.r ordered-start.Learnt
+ordered-start-determined κs args x y s s′ p q = p .0 ∙ sym (q .0)
+
+pub ordered-start-leaves : LeavesOne 2 ordered-start-kinds.ps ordered-start-kinds.r ordered-start.Learnt (λ κs s. now (s .1 .1 .0))
+ordered-start-leaves κs args x y s s′ p q = p .1 ∙ sym (q .1)
+
+pub ordered-unstart-determined : Determined 2 ordered-unstart-kinds.ps ordered-unstart-kinds.r ordered-unstart.Learnt
+ordered-unstart-determined κs args x y s s′ p q = p .0 ∙ sym (q .0)
+
+pub ordered-unstart-leaves : LeavesOne 2 ordered-unstart-kinds.ps ordered-unstart-kinds.r ordered-unstart.Learnt (λ κs s. now (s .1 .1 .0))
+ordered-unstart-leaves κs args x y s s′ p q = p .1 ∙ sym (q .1)
+
+pub ordered-end-determined : Determined 2 ordered-end-kinds.ps ordered-end-kinds.r ordered-end.Learnt
+ordered-end-determined κs args x y s s′ p q = p .0 ∙ sym (q .0)
+
+pub ordered-end-leaves : LeavesOne 2 ordered-end-kinds.ps ordered-end-kinds.r ordered-end.Learnt (λ κs s. now (s .1 .1 .0))
+ordered-end-leaves κs args x y s s′ p q = p .1 ∙ sym (q .1)
+
+pub ordered-unend-determined : Determined 2 ordered-unend-kinds.ps ordered-unend-kinds.r ordered-unend.Learnt
+ordered-unend-determined κs args x y s s′ p q = p .0 ∙ sym (q .0)
+
+pub ordered-unend-leaves : LeavesOne 2 ordered-unend-kinds.ps ordered-unend-kinds.r ordered-unend.Learnt (λ κs s. now (s .1 .1 .0))
+ordered-unend-leaves κs args x y s s′ p q = p .1 ∙ sym (q .1)
 
 pub apply-determined : Determined 2 apply-kinds.ps apply-kinds.r apply.Learnt
 apply-determined κs args x y s s′ p q = p .0 ∙ sym (q .0)

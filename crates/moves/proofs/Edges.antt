@@ -3,7 +3,7 @@
 use mathlib.Core.Path.{refl}
 use Rattle.model.specs.Tab.{tab, all, largest, lowest, one}
 use Rattle.model.specs.Net.{width, tokens, count, build}
-use Rattle.model.specs.Rules.{lackingPlace, enabled?, short, no-start-owed?, no-end-owed?, nothing-running?, timely?, has-room?, covers?, none-fresh?, started, ended, older, ticked, apply, unstarted, unended, unticked, back}
+use Rattle.model.specs.Rules.{lackingPlace, enabled?, short, no-start-owed?, no-end-owed?, nothing-running?, timely?, has-room?, covers?, none-fresh?, may-end?, owes-no-old-end?, no-old-end-owed?, started, ended, older, ticked, apply, unstarted, unended, unticked, back}
 use Rattle.forms.specs.Word.{word, setWord, putWords, putRows}
 use Rattle.forms.specs.Places.{rowAt, countAt}
 use Rattle.forms.specs.Stored.{netOf, stateOf}
@@ -12,7 +12,7 @@ use Rattle.moves.specs.Edges.{DoneNumbers, UndoneNumbers}
 
 pub done-numbers : DoneNumbers
 unfolding
-    tab all largest one width tokens count build lowest lackingPlace enabled? short no-start-owed? no-end-owed? nothing-running? timely? has-room? started ended older
+    tab all largest one width tokens count build lowest lackingPlace enabled? short no-start-owed? no-end-owed? nothing-running? timely? has-room? may-end? owes-no-old-end? no-old-end-owed? started ended older
     ticked apply word setWord putWords putRows rowAt countAt netOf stateOf written
 done-numbers = record {
   start = (refl, refl);
@@ -33,11 +33,19 @@ done-numbers = record {
   start-owed = (refl, refl);
   end-owed = (refl, refl);
   nothing-running = (refl, refl);
+  old-after-start = (refl, refl);
+  fresh-after-start = (refl, refl);
+  old-first = (refl, refl);
+  outside-first = (refl, refl);
+  old-end-owed = (refl, refl);
+  fresh-end-owed = (refl, refl);
+  not-enabled-first = (refl, refl);
+  owed-first = (refl, refl);
 }
 
 pub undone-numbers : UndoneNumbers
 unfolding
-    tab all largest one width tokens count build lowest lackingPlace enabled? no-start-owed? nothing-running? timely? has-room? covers? none-fresh? unstarted unended
+    tab all largest one width tokens count build lowest lackingPlace enabled? no-start-owed? nothing-running? timely? has-room? covers? none-fresh? may-end? owes-no-old-end? no-old-end-owed? unstarted unended
     unticked back word setWord putWords putRows rowAt countAt netOf stateOf written
 undone-numbers = record {
   start = (refl, refl);
@@ -57,4 +65,9 @@ undone-numbers = record {
   fresh = (refl, refl);
   fresh-first = (refl, refl);
   rest = (refl, refl);
+  old-after-start = (refl, refl);
+  fresh-after-start = (refl, refl);
+  old-end-owed = (refl, refl);
+  overfull-first = (refl, refl);
+  none-started-before = (refl, refl);
 }

@@ -7,6 +7,8 @@ pub mod Looked
 pub mod Fired
 pub mod Starting
 pub mod Ending
+pub mod Ordering
 pub mod Undone
 pub mod Calm
+pub mod Cleared
 pub mod Determined

@@ -160,40 +160,40 @@ module _ (net b : List ℕ) where
   abbrev S₀ : State
   S₀ = stored net b
 
-  pub tick-start-owed : no-start-owed? N₀ S₀ ≡ false → Answers net b (applied net b event.Tick) (answer.Refused refusal.StartOwed) b
+  pub tick-start-owed : no-start-owed? N₀ S₀ ≡ false → Answers net b (applied net false b event.Tick) (answer.Refused refusal.StartOwed) b
   unfolding apply
   tick-start-owed owed = simp owed (refl, refl)
 
-  pub untick-fresh : none-fresh? N₀ S₀ ≡ false → Answers net b (takenBack net b event.Tick) (answer.Refused (refusal.OnlyBack barrier.SomeFresh)) b
+  pub untick-fresh : none-fresh? N₀ S₀ ≡ false → Answers net b (takenBack net false b event.Tick) (answer.Refused (refusal.OnlyBack barrier.SomeFresh)) b
   unfolding back
   untick-fresh fresh = simp fresh (refl, refl)
 
   module _ (calm : no-start-owed? N₀ S₀ ≡ true) where
-    pub tick-end-owed : no-end-owed? N₀ S₀ ≡ false → Answers net b (applied net b event.Tick) (answer.Refused refusal.EndOwed) b
+    pub tick-end-owed : no-end-owed? N₀ S₀ ≡ false → Answers net b (applied net false b event.Tick) (answer.Refused refusal.EndOwed) b
     unfolding apply
     tick-end-owed owed = simp (calm, owed) (refl, refl)
 
     module _ (none : no-end-owed? N₀ S₀ ≡ true) where
-      pub tick-rest : nothing-running? N₀ S₀ ≡ true → Answers net b (applied net b event.Tick) (answer.Refused refusal.NothingRunning) b
+      pub tick-rest : nothing-running? N₀ S₀ ≡ true → Answers net b (applied net false b event.Tick) (answer.Refused refusal.NothingRunning) b
       unfolding apply
       tick-rest rest = simp (calm, none, rest) (refl, refl)
 
       pub tick-done : nothing-running? N₀ S₀ ≡ false → (b′ : List ℕ) → b′ ≡ written N₀ (ticked N₀ S₀) b
-          → Answers net b (applied net b event.Tick) answer.Done b′
+          → Answers net b (applied net false b event.Tick) answer.Done b′
       unfolding apply
       tick-done runs b′ e = simp (calm, none, runs) (refl, e)
 
   module _ (none : none-fresh? N₀ S₀ ≡ true) where
-    pub untick-start-owed : no-start-owed? N₀ S₀ ≡ false → Answers net b (takenBack net b event.Tick) (answer.Refused refusal.StartOwed) b
+    pub untick-start-owed : no-start-owed? N₀ S₀ ≡ false → Answers net b (takenBack net false b event.Tick) (answer.Refused refusal.StartOwed) b
     unfolding back
     untick-start-owed owed = simp (none, owed) (refl, refl)
 
     module _ (calm : no-start-owed? N₀ S₀ ≡ true) where
-      pub untick-rest : nothing-running? N₀ S₀ ≡ true → Answers net b (takenBack net b event.Tick) (answer.Refused refusal.NothingRunning) b
+      pub untick-rest : nothing-running? N₀ S₀ ≡ true → Answers net b (takenBack net false b event.Tick) (answer.Refused refusal.NothingRunning) b
       unfolding back
       untick-rest rest = simp (none, calm, rest) (refl, refl)
 
       pub untick-done : nothing-running? N₀ S₀ ≡ false → (b′ : List ℕ) → b′ ≡ written N₀ (unticked N₀ S₀) b
-          → Answers net b (takenBack net b event.Tick) answer.Done b′
+          → Answers net b (takenBack net false b event.Tick) answer.Done b′
       unfolding back
       untick-done runs b′ e = simp (none, calm, runs) (refl, e)

@@ -1,6 +1,7 @@
 -- One event on bytes that a reader can compare with document 01: the children's row net, and its initial state with a byte or two changed.
 -- Assumes nothing.
 use mathlib.Core.Path.{_≡_}
+use mathlib.Core.Bool.{true, false}
 use mathlib.Core.List.{List, [], _∷_, _++_}
 use Prim.Native.Nat.{ℕ}
 use lib.ListN.{set}
@@ -16,12 +17,19 @@ use Rattle.moves.specs.After.{applied, takenBack, after}
 abbrev pub Leaves : Outcome → List ℕ → ℕ → List ℕ → Type 0
 Leaves o b number b′ = (numberOf (answerOf o) ≡ number) × (after (netOf rowNet) o b ≡ b′)
 
--- the two bytes of an event, done and taken back
+-- the two bytes of an event, done and taken back, where no start has happened before in the step
 abbrev pub Does : ℕ → ℕ → List ℕ → ℕ → List ℕ → Type 0
-Does first second b = Leaves (applied rowNet b (eventOf first second)) b
+Does first second b = Leaves (applied rowNet false b (eventOf first second)) b
 
 abbrev pub Undoes : ℕ → ℕ → List ℕ → ℕ → List ℕ → Type 0
-Undoes first second b = Leaves (takenBack rowNet b (eventOf first second)) b
+Undoes first second b = Leaves (takenBack rowNet false b (eventOf first second)) b
+
+-- and where one has
+abbrev pub DoesBehind : ℕ → ℕ → List ℕ → ℕ → List ℕ → Type 0
+DoesBehind first second b = Leaves (applied rowNet true b (eventOf first second)) b
+
+abbrev pub UndoesBehind : ℕ → ℕ → List ℕ → ℕ → List ℕ → Type 0
+UndoesBehind first second b = Leaves (takenBack rowNet true b (eventOf first second)) b
 
 -- 65,534 and 65,535 tokens in place 1, with a firing of transition 0 of age 1
 abbrev pub nearlyFull : List ℕ
@@ -42,7 +50,7 @@ pub record DoneNumbers : Type 0 where
   pub no-end : Does 0x43 0x00 rowState 12 rowState
   -- place 0, whose weight is 1, has no token
   pub not-enabled : Does 0x01 0x00 spent 13 spent
-  pub short-is : shortOf (answerOf (applied rowNet spent (eventOf 0x01 0x00))) ≡ record { place = 0; lacks = 1 }
+  pub short-is : shortOf (answerOf (applied rowNet false spent (eventOf 0x01 0x00))) ≡ record { place = 0; lacks = 1 }
   pub count-full : Does 0x01 0x00 (set (set rowState 14 0xFF) 15 0xFF) 14 (set (set rowState 14 0xFF) 15 0xFF)
   pub outside : Does 0x41 0x04 spent 15 spent
   pub none-of-that-age : Does 0x41 0x02 spent 16 spent
@@ -50,6 +58,16 @@ pub record DoneNumbers : Type 0 where
   pub start-owed : Does 0x00 0x00 rowState 18 rowState
   pub end-owed : Does 0x00 0x00 (set spent 21 1) 19 (set spent 21 1)
   pub nothing-running : Does 0x00 0x00 spent 20 spent
+  -- a firing of age 1 behind a start, one of age 0, and none of age 2: 28 before 16
+  pub old-after-start : DoesBehind 0x41 0x01 nearlyFull 28 nearlyFull
+  pub fresh-after-start : DoesBehind 0x42 0x00 (set spent 23 1) 0 (set spent 13 1)
+  pub old-first : DoesBehind 0x41 0x02 spent 28 spent
+  pub outside-first : DoesBehind 0x41 0x04 spent 15 spent
+  -- transition 0 has a count at age 3, its lfd; and transition 1 at age 0, its lfd
+  pub old-end-owed : Does 0x01 0x00 (set rowState 21 1) 29 (set rowState 21 1)
+  pub fresh-end-owed : Does 0x01 0x00 (set rowState 23 1) 0 (set (set spent 15 1) 23 1)
+  pub not-enabled-first : Does 0x01 0x00 (set spent 21 1) 13 (set spent 21 1)
+  pub owed-first : Does 0x01 0x00 (set (set (set rowState 14 0xFF) 15 0xFF) 21 1) 29 (set (set (set rowState 14 0xFF) 15 0xFF) 21 1)
 
 pub record UndoneNumbers : Type 0 where
   pub start : Undoes 0x01 0x00 (set spent 15 1 ++ (0xFF ∷ [])) 0 (rowState ++ (0xFF ∷ []))
@@ -75,3 +93,10 @@ pub record UndoneNumbers : Type 0 where
   -- and it is told before a start that is owed
   pub fresh-first : Undoes 0x00 0x00 (set rowState 23 1) 21 (set rowState 23 1)
   pub rest : Undoes 0x00 0x00 spent 20 spent
+  -- an end of age 1 behind a start, though place 1 is empty; an end of age 0
+  pub old-after-start : UndoesBehind 0x41 0x01 spent 28 spent
+  pub fresh-after-start : UndoesBehind 0x42 0x00 (set spent 13 1) 0 (set spent 23 1)
+  -- a start while an end of age 3 was owed; with a full place, and with no firing of age 0
+  pub old-end-owed : Undoes 0x01 0x00 (set (set spent 15 1) 21 1) 29 (set (set spent 15 1) 21 1)
+  pub overfull-first : Undoes 0x01 0x00 (set (set (set (set rowState 8 0xFF) 9 0xFF) 15 1) 21 1) 25 (set (set (set (set rowState 8 0xFF) 9 0xFF) 15 1) 21 1)
+  pub none-started-before : Undoes 0x01 0x00 (set spent 21 1) 24 (set spent 21 1)

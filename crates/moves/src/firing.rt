@@ -1,4 +1,5 @@
-// Starts and ends of a transition, done (12 to 17) and taken back (12; 24, 25; 15, 26, 27).
+// Starts and ends of a transition that the order of the step permits (`order`), done (12; 13, 14; 15, 16, 17) and taken back (12; 24, 25; 15,
+// 26, 27). For these it is all one whether a start has happened in the step.
 use crate::marking;
 use forms::net;
 use forms::places;
@@ -12,17 +13,18 @@ use owed::counts;
 use owed::marks;
 use owed::starts;
 ghost use mathlib.Core.Path.{_≡_};
+ghost use mathlib.Core.Bool.{true, false};
 ghost use Prim.Native.Nat.{_<_};
 ghost use Rattle.model.specs.declared.event.Event.the-variants as event;
-ghost use Rattle.model.specs.Rules.{answerOf, timely?};
+ghost use Rattle.model.specs.Rules.{answerOf, timely?, no-old-end-owed?};
 ghost use Rattle.forms.specs.Word.{byte};
-ghost use Rattle.forms.specs.Stored.{netOf};
+ghost use Rattle.forms.specs.Stored.{netOf, stored};
 ghost use Rattle.forms.specs.Nets.{IsNet};
 ghost use Rattle.forms.specs.Frame.{Framed};
 ghost use Rattle.moves.specs.After.{applied, takenBack, after};
 
 // The age is in the interval of transition t.
-fn timely(net: &[u8], t: usize, age: Age) -> bool
+pub fn timely(net: &[u8], t: usize, age: Age) -> bool
     requires { ⌜ IsNet (now net) × (t < byte (now net) 6) ⌝ }
     ensures { λ r. ⌜ r ≡ timely? (netOf (now (net .entry))) t (age .0) ⌝ }
 {
@@ -35,8 +37,9 @@ fn timely(net: &[u8], t: usize, age: Age) -> bool
 // Transition t starts.
 pub fn start(net: &[u8], shape: Net, state: &mut [u8], t: usize) -> Answer
     requires { ⌜ Framed (now net) shape (now state) ⌝ }
-    ensures { λ r. ⌜ r ≡ answerOf (applied (now (net .entry)) (now (state .entry)) (event.Start t)) ⌝ }
-    ensures { λ _. ⌜ now (state .exit) ≡ after (netOf (now (net .entry))) (applied (now (net .entry)) (now (state .entry)) (event.Start t)) (now (state .entry)) ⌝ }
+    requires { ⌜ no-old-end-owed? (netOf (now net)) (stored (now net) (now state)) ≡ true ⌝ }
+    ensures { λ r. ⌜ r ≡ answerOf (applied (now (net .entry)) false (now (state .entry)) (event.Start t)) ⌝ }
+    ensures { λ _. ⌜ now (state .exit) ≡ after (netOf (now (net .entry))) (applied (now (net .entry)) false (now (state .entry)) (event.Start t)) (now (state .entry)) ⌝ }
 {
     if shape.transitions <= t {
         return Answer::Refused(Refusal::NoSuchTransition);
@@ -67,8 +70,9 @@ pub fn start(net: &[u8], shape: Net, state: &mut [u8], t: usize) -> Answer
 // A start of transition t is taken back.
 pub fn unstart(net: &[u8], shape: Net, state: &mut [u8], t: usize) -> Answer
     requires { ⌜ Framed (now net) shape (now state) ⌝ }
-    ensures { λ r. ⌜ r ≡ answerOf (takenBack (now (net .entry)) (now (state .entry)) (event.Start t)) ⌝ }
-    ensures { λ _. ⌜ now (state .exit) ≡ after (netOf (now (net .entry))) (takenBack (now (net .entry)) (now (state .entry)) (event.Start t)) (now (state .entry)) ⌝ }
+    requires { ⌜ no-old-end-owed? (netOf (now net)) (stored (now net) (now state)) ≡ true ⌝ }
+    ensures { λ r. ⌜ r ≡ answerOf (takenBack (now (net .entry)) false (now (state .entry)) (event.Start t)) ⌝ }
+    ensures { λ _. ⌜ now (state .exit) ≡ after (netOf (now (net .entry))) (takenBack (now (net .entry)) false (now (state .entry)) (event.Start t)) (now (state .entry)) ⌝ }
 {
     if shape.transitions <= t {
         return Answer::Refused(Refusal::NoSuchTransition);
@@ -92,8 +96,8 @@ pub fn unstart(net: &[u8], shape: Net, state: &mut [u8], t: usize) -> Answer
 // Transition t ends, at an age.
 pub fn end(net: &[u8], shape: Net, state: &mut [u8], t: usize, age: Age) -> Answer
     requires { ⌜ Framed (now net) shape (now state) ⌝ }
-    ensures { λ r. ⌜ r ≡ answerOf (applied (now (net .entry)) (now (state .entry)) (event.End t age)) ⌝ }
-    ensures { λ _. ⌜ now (state .exit) ≡ after (netOf (now (net .entry))) (applied (now (net .entry)) (now (state .entry)) (event.End t age)) (now (state .entry)) ⌝ }
+    ensures { λ r. ⌜ r ≡ answerOf (applied (now (net .entry)) false (now (state .entry)) (event.End t age)) ⌝ }
+    ensures { λ _. ⌜ now (state .exit) ≡ after (netOf (now (net .entry))) (applied (now (net .entry)) false (now (state .entry)) (event.End t age)) (now (state .entry)) ⌝ }
 {
     if shape.transitions <= t {
         return Answer::Refused(Refusal::NoSuchTransition);
@@ -116,8 +120,8 @@ pub fn end(net: &[u8], shape: Net, state: &mut [u8], t: usize, age: Age) -> Answ
 // An end of transition t at an age is taken back.
 pub fn unend(net: &[u8], shape: Net, state: &mut [u8], t: usize, age: Age) -> Answer
     requires { ⌜ Framed (now net) shape (now state) ⌝ }
-    ensures { λ r. ⌜ r ≡ answerOf (takenBack (now (net .entry)) (now (state .entry)) (event.End t age)) ⌝ }
-    ensures { λ _. ⌜ now (state .exit) ≡ after (netOf (now (net .entry))) (takenBack (now (net .entry)) (now (state .entry)) (event.End t age)) (now (state .entry)) ⌝ }
+    ensures { λ r. ⌜ r ≡ answerOf (takenBack (now (net .entry)) false (now (state .entry)) (event.End t age)) ⌝ }
+    ensures { λ _. ⌜ now (state .exit) ≡ after (netOf (now (net .entry))) (takenBack (now (net .entry)) false (now (state .entry)) (event.End t age)) (now (state .entry)) ⌝ }
 {
     if shape.transitions <= t {
         return Answer::Refused(Refusal::NoSuchTransition);

@@ -2,5 +2,6 @@
 pub mod event;
 pub mod firing;
 pub mod marking;
+pub mod order;
 pub mod shift;
 pub mod tick;

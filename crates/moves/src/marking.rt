@@ -63,6 +63,22 @@ pub fn give(net: &[u8], from: usize, state: &mut [u8], places: usize) -> bool
     true
 }
 
+// Each of so many places has room for its weight: the test that `give` makes, and nothing is written.
+pub fn has_room(net: &[u8], from: usize, state: &[u8], places: usize) -> bool
+    requires { ⌜ (places < 256) × (from + places ≤ length (now net)) × (markAt places ≤ length (now state)) ⌝ }
+    ensures { λ r. ⌜ r ≡ roomy? (now (net .entry)) from (now (state .entry)) places ⌝ }
+{
+    let mut p = 0;
+    while p < places {
+        let weight = words::wide(net[from + p]);
+        if !Net::held(words::read16(state, places::mark_at(p)) + weight) {
+            return false;
+        }
+        p += 1;
+    }
+    true
+}
+
 // The weights that have joined the marking of so many places leave it again.
 fn take_back(net: &[u8], from: usize, state: &mut [u8], places: usize)
     requires { ⌜ (places < 256) × (from + places ≤ length (now net)) × (markAt places ≤ length (now state)) ⌝ }

@@ -1,4 +1,4 @@
-// A tick, done (18, 19, 20) and taken back (21, 18, 20).
+// A tick, done (18, 19, 20) and taken back (21, 18, 20). It is all one to it whether a start has happened in the step.
 use crate::shift;
 use forms::places;
 use model::answer::Answer;
@@ -8,7 +8,7 @@ use model::net::Net;
 use owed::counts;
 use owed::starts;
 ghost use mathlib.Core.Path.{_≡_};
-ghost use mathlib.Core.Bool.{true};
+ghost use mathlib.Core.Bool.{true, false};
 ghost use Rattle.model.specs.declared.event.Event.the-variants as event;
 ghost use Rattle.model.specs.Rules.{answerOf, no-end-owed?, none-fresh?, ticked, unticked};
 ghost use Rattle.forms.specs.Stored.{netOf, stored};
@@ -38,8 +38,8 @@ fn move_back(net: &[u8], shape: Net, state: &mut [u8])
 // Time passes by one tick.
 pub fn tick(net: &[u8], shape: Net, state: &mut [u8]) -> Answer
     requires { ⌜ Framed (now net) shape (now state) ⌝ }
-    ensures { λ r. ⌜ r ≡ answerOf (applied (now (net .entry)) (now (state .entry)) event.Tick) ⌝ }
-    ensures { λ _. ⌜ now (state .exit) ≡ after (netOf (now (net .entry))) (applied (now (net .entry)) (now (state .entry)) event.Tick) (now (state .entry)) ⌝ }
+    ensures { λ r. ⌜ r ≡ answerOf (applied (now (net .entry)) false (now (state .entry)) event.Tick) ⌝ }
+    ensures { λ _. ⌜ now (state .exit) ≡ after (netOf (now (net .entry))) (applied (now (net .entry)) false (now (state .entry)) event.Tick) (now (state .entry)) ⌝ }
 {
     if !starts::no_start_owed(net, shape, state) {
         return Answer::Refused(Refusal::StartOwed);
@@ -57,8 +57,8 @@ pub fn tick(net: &[u8], shape: Net, state: &mut [u8]) -> Answer
 // A tick is taken back.
 pub fn untick(net: &[u8], shape: Net, state: &mut [u8]) -> Answer
     requires { ⌜ Framed (now net) shape (now state) ⌝ }
-    ensures { λ r. ⌜ r ≡ answerOf (takenBack (now (net .entry)) (now (state .entry)) event.Tick) ⌝ }
-    ensures { λ _. ⌜ now (state .exit) ≡ after (netOf (now (net .entry))) (takenBack (now (net .entry)) (now (state .entry)) event.Tick) (now (state .entry)) ⌝ }
+    ensures { λ r. ⌜ r ≡ answerOf (takenBack (now (net .entry)) false (now (state .entry)) event.Tick) ⌝ }
+    ensures { λ _. ⌜ now (state .exit) ≡ after (netOf (now (net .entry))) (takenBack (now (net .entry)) false (now (state .entry)) event.Tick) (now (state .entry)) ⌝ }
 {
     if !counts::none_fresh(net, shape, state) {
         return Answer::Refused(Refusal::OnlyBack(Barrier::SomeFresh));
@@ -77,8 +77,8 @@ pub fn untick(net: &[u8], shape: Net, state: &mut [u8]) -> Answer
 pub fn tick_again(net: &[u8], shape: Net, state: &mut [u8]) -> Answer
     requires { ⌜ Framed (now net) shape (now state) ⌝ }
     requires { ⌜ Settled (now net) (now state) ⌝ }
-    ensures { λ r. ⌜ r ≡ answerOf (applied (now (net .entry)) (now (state .entry)) event.Tick) ⌝ }
-    ensures { λ _. ⌜ now (state .exit) ≡ after (netOf (now (net .entry))) (applied (now (net .entry)) (now (state .entry)) event.Tick) (now (state .entry)) ⌝ }
+    ensures { λ r. ⌜ r ≡ answerOf (applied (now (net .entry)) false (now (state .entry)) event.Tick) ⌝ }
+    ensures { λ _. ⌜ now (state .exit) ≡ after (netOf (now (net .entry))) (applied (now (net .entry)) false (now (state .entry)) event.Tick) (now (state .entry)) ⌝ }
 {
     if !counts::no_end_owed(net, shape, state) {
         return Answer::Refused(Refusal::EndOwed);
@@ -91,8 +91,8 @@ pub fn tick_again(net: &[u8], shape: Net, state: &mut [u8]) -> Answer
 pub fn untick_again(net: &[u8], shape: Net, state: &mut [u8]) -> Answer
     requires { ⌜ Framed (now net) shape (now state) ⌝ }
     requires { ⌜ Settled (now net) (now state) ⌝ }
-    ensures { λ r. ⌜ r ≡ answerOf (takenBack (now (net .entry)) (now (state .entry)) event.Tick) ⌝ }
-    ensures { λ _. ⌜ now (state .exit) ≡ after (netOf (now (net .entry))) (takenBack (now (net .entry)) (now (state .entry)) event.Tick) (now (state .entry)) ⌝ }
+    ensures { λ r. ⌜ r ≡ answerOf (takenBack (now (net .entry)) false (now (state .entry)) event.Tick) ⌝ }
+    ensures { λ _. ⌜ now (state .exit) ≡ after (netOf (now (net .entry))) (takenBack (now (net .entry)) false (now (state .entry)) event.Tick) (now (state .entry)) ⌝ }
 {
     let none_fresh = counts::none_fresh(net, shape, state);
     if !none_fresh {

@@ -13,6 +13,8 @@ use Rattle.owed.proofs.counts.due.Reads as due
 use Rattle.owed.proofs.counts.due.Kinds as due-kinds
 use Rattle.owed.proofs.counts.no_end_owed.Reads as no-end-owed
 use Rattle.owed.proofs.counts.no_end_owed.Kinds as no-end-owed-kinds
+use Rattle.owed.proofs.counts.no_old_end_owed.Reads as no-old-end-owed
+use Rattle.owed.proofs.counts.no_old_end_owed.Kinds as no-old-end-owed-kinds
 use Rattle.owed.proofs.counts.none_fresh.Reads as none-fresh
 use Rattle.owed.proofs.counts.none_fresh.Kinds as none-fresh-kinds
 use Rattle.owed.proofs.counts.nothing_running.Reads as nothing-running
@@ -54,6 +56,9 @@ due-determined κs args x y s s′ p q = p .0 ∙ sym (q .0)
 
 pub no-end-owed-determined : Determined 2 no-end-owed-kinds.ps no-end-owed-kinds.r no-end-owed.Learnt
 no-end-owed-determined κs args x y s s′ p q = p ∙ sym q
+
+pub no-old-end-owed-determined : Determined 2 no-old-end-owed-kinds.ps no-old-end-owed-kinds.r no-old-end-owed.Learnt
+no-old-end-owed-determined κs args x y s s′ p q = p ∙ sym q
 
 pub none-fresh-determined : Determined 2 none-fresh-kinds.ps none-fresh-kinds.r none-fresh.Learnt
 none-fresh-determined κs args x y s s′ p q = p ∙ sym q

@@ -15,7 +15,8 @@ use Rattle.model.specs.declared.answer.Standing.the-variants as standing
 use Rattle.model.specs.Tab.{Tells, all, least, lowest, howMany}
 use Rattle.model.specs.Limits.{tokenLimit}
 use Rattle.model.specs.Net.{Net, State, width, tokens, count}
-use Rattle.model.specs.Rules.{lackingPlace, enabled?, short, no-start-owed?, no-end-owed?, none-fresh?, nothing-running?, covers?, times, degree}
+use Rattle.model.specs.Rules.{lackingPlace, enabled?, short, no-start-owed?, no-end-owed?, owes-no-old-end?, no-old-end-owed?, none-fresh?}
+use Rattle.model.specs.Rules.{nothing-running?, covers?, times, degree}
 use Rattle.model.specs.Owed.{Lowest, wordBits, owes-start?, owes-end?, standingOf}
 use Rattle.model.proofs.Tab.{all-tells}
 use Rattle.model.proofs.Shape.{width-pos}
@@ -176,6 +177,10 @@ module _ (net : List ℕ) (shape : Shape) (b : List ℕ) (f : Framed net shape b
   pub no-end-is : all (shape .transitions) (λ t. eqb (count (stored net b) t (netOf net .lfd t)) 0) ≡ no-end-owed? (netOf net) (stored net b)
   unfolding no-end-owed?
   no-end-is = ap (λ (n : ℕ). all n (λ t. eqb (count (stored net b) t (netOf net .lfd t)) 0)) transitions-are
+
+  pub no-old-end-is : all (shape .transitions) (owes-no-old-end? (netOf net) (stored net b)) ≡ no-old-end-owed? (netOf net) (stored net b)
+  unfolding no-old-end-owed?
+  no-old-end-is = ap (λ (n : ℕ). all n (owes-no-old-end? (netOf net) (stored net b))) transitions-are
 
   pub none-fresh-is : all (shape .transitions) (λ t. eqb (count (stored net b) t 0) 0) ≡ none-fresh? (netOf net) (stored net b)
   unfolding none-fresh?

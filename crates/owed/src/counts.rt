@@ -7,7 +7,7 @@ use model::net::Net;
 ghost use mathlib.Core.Path.{_≡_};
 ghost use Prim.Native.Nat.{_<_};
 ghost use Rattle.model.specs.Net.{count as countOf};
-ghost use Rattle.model.specs.Rules.{no-end-owed?, none-fresh?, nothing-running?};
+ghost use Rattle.model.specs.Rules.{no-end-owed?, owes-no-old-end?, no-old-end-owed?, none-fresh?, nothing-running?};
 ghost use Rattle.forms.specs.Word.{byte};
 ghost use Rattle.forms.specs.Stored.{netOf, stored};
 ghost use Rattle.forms.specs.Frame.{Framed};
@@ -39,6 +39,34 @@ pub fn no_end_owed(net: &[u8], shape: Net, state: &[u8]) -> bool
     let mut t = 0;
     while t < transitions {
         if due(net, shape, state, t) != 0 {
+            return false;
+        }
+        t += 1;
+    }
+    true
+}
+
+// No end of age 1 or more is owed by transition t: no count stands at its lfd, or its lfd is 0.
+fn owes_no_old_end(net: &[u8], shape: Net, state: &[u8], t: usize) -> bool
+    requires { ⌜ Framed (now net) shape (now state) ⌝ }
+    requires { ⌜ t < byte (now net) 6 ⌝ }
+    ensures { λ r. ⌜ r ≡ owes-no-old-end? (netOf (now (net .entry))) (stored (now (net .entry)) (now (state .entry))) t ⌝ }
+{
+    if due(net, shape, state, t) == 0 {
+        return true;
+    }
+    net::lfd(net, t) == 0
+}
+
+// No end of age 1 or more is owed.
+pub fn no_old_end_owed(net: &[u8], shape: Net, state: &[u8]) -> bool
+    requires { ⌜ Framed (now net) shape (now state) ⌝ }
+    ensures { λ r. ⌜ r ≡ no-old-end-owed? (netOf (now (net .entry))) (stored (now (net .entry)) (now (state .entry))) ⌝ }
+{
+    let transitions = shape.transitions;
+    let mut t = 0;
+    while t < transitions {
+        if !owes_no_old_end(net, shape, state, t) {
             return false;
         }
         t += 1;

@@ -5,7 +5,7 @@ use native.Mathlib.Omega.{arith}
 use Rattle.model.specs.Tab.{tab, all, largest, lowest, one}
 use Rattle.model.specs.Net.{width, tokens, count, build, initialState}
 use Rattle.model.specs.Owed.{owes-start?, owes-end?, standingOf, owed}
-use Rattle.model.specs.Rules.{lackingPlace, enabled?, no-start-owed?, no-end-owed?, nothing-running?, timely?, has-room?, started, ended, older, ticked, apply}
+use Rattle.model.specs.Rules.{lackingPlace, enabled?, no-start-owed?, no-end-owed?, nothing-running?, timely?, may-end?, owes-no-old-end?, no-old-end-owed?, has-room?, started, ended, older, ticked, apply}
 use Rattle.model.specs.Run.{ticksIn}
 use Rattle.forms.specs.Word.{word, word32, blank?, setWord, setWord32, putWords, putRows}
 use Rattle.forms.specs.Begins.{begins?}
@@ -60,7 +60,7 @@ unfolding aloneLength built builtState builtLog initialTold initialLeft owedTold
     examinePage examineNet examineState checkNet net-head? begins? checkRow some-weight? inTurn checkState has-head? none-past? checkRoom afterInitial
     image headed written setWord setWord32 putWords putRows netOf stateOf word word32 blank? rowAt countAt stateLength logBytes pairsOf
     page choice ticksIn owes-start? owes-end? standingOf owed wordOf apply started ended ticked older initialState
-    lackingPlace enabled? no-start-owed? no-end-owed? nothing-running? timely? has-room? width tokens count build tab all largest lowest one
+    lackingPlace enabled? no-start-owed? no-end-owed? nothing-running? timely? may-end? owes-no-old-end? no-old-end-owed? has-room? width tokens count build tab all largest lowest one
 page-edges = record {
   read-enough = refl;
   longest-log = refl;

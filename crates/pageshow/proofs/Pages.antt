@@ -1,7 +1,7 @@
 -- What the two calls promise is what is told of a page: each way through `build` and `build_from`.
 -- Assumes nothing.
 use mathlib.Core.Path.{_≡_, refl, sym, ap, _∙_}
-use mathlib.Core.Bool.{true}
+use mathlib.Core.Bool.{true, false}
 use mathlib.Core.List.{List}
 use Prim.Native.Nat.{ℕ, _+_, _*_, _≤_}
 use native.Mathlib.Omega.{arith}
@@ -26,6 +26,7 @@ use Rattle.runner.specs.declared.call.PageTold.{PageTold}
 use Rattle.runner.specs.Call.{pageTold, stateLeft, logLeft}
 use Rattle.runner.specs.Logged.{roomOf}
 use Rattle.runner.specs.Promised.{PageBuilt, PagePromise}
+use Rattle.runner.proofs.Pages.{opening}
 use Rattle.replay.specs.Replayed.{early?, standingAfter, replayed, replayLeft}
 use Rattle.replay.specs.Lines.{LateShown}
 use Rattle.replay.proofs.Shown.{not-both, fault-early, ran-shown}
@@ -84,13 +85,13 @@ module _ (net state log : List ℕ) (budget : ℕ) (p : PageTold) (state′ log�
         unfolding standingAfter
         as-run e =
             let done = page-built promise z .0 in
-            (rw (done .run-tells, done .run-leaves, owes, nothing) refl, sym (done .run-leaves))
+            (rw (done .run-tells false opening, done .run-leaves false opening, owes, nothing) refl, sym (done .run-leaves false opening))
 
         pub page-told : (tells ≡ builtFrom net state log budget) × ((tells .log ≤ length log′) × LateShown 0 state′) × AsRun net state tells state′ log′
         page-told =
             let done = page-built promise z .0 in (
               rw (← told, eq-eqb (p .number) 0 z, ← left, ← owes, nothing) refl,
-              (log-fits z .1, λ late. rw (← done .run-leaves) (ran-shown net state (take (logLength (p .events)) log′) (ap (λ x. early? (x .number)) (done .run-tells)))),
+              (log-fits z .1, λ late. rw (← done .run-leaves false opening) (ran-shown net state (take (logLength (p .events)) log′) (ap (λ x. early? (x .number)) (done .run-tells false opening)))),
               as-run,
             )
 

@@ -1,18 +1,18 @@
 -- The page that menupage builds of the net in its input, what it tells of it, and that menurun tells the same.
 -- Assumes nothing.
 use mathlib.Core.Path.{_≡_}
-use mathlib.Core.Bool.{cond}
+use mathlib.Core.Bool.{cond, false}
 use mathlib.Core.List.{List, _++_}
 use Prim.Native.Nat.{ℕ, suc}
 use lib.Dec.{eqb, leb}
 use lib.ListN.{length, take}
 use Rattle.forms.specs.Places.{logLength}
 use Rattle.engine.specs.declared.answers.Verdict.{Verdict}
-use Rattle.engine.specs.Said.{says, saysRun, noPlace}
+use Rattle.engine.specs.Said.{says, noPlace}
 use Rattle.engine.specs.Calls.{initialTold, initialLeft, runLeft, owedTold}
 use Rattle.runner.specs.declared.call.PageTold.{PageTold}
 use Rattle.runner.specs.Call.{pageTold, stateLeft, logLeft}
-use Rattle.replay.specs.Replayed.{longestNet, withStanding, ranOn, notBegun, begun?, replayed, replayLeft}
+use Rattle.replay.specs.Replayed.{longestNet, ranOn, notBegun, begun?, replayed, replayLeft}
 use Rattle.pageshow.specs.declared.build.Built.{Built}
 
 -- THE NET
@@ -39,7 +39,7 @@ abbrev pub ofPage : PageTold → ℕ → Built
 ofPage p standing = record {
   stop = p .stop;
   log = logLength (p .events);
-  told = withStanding (saysRun 0 (p .events) (p .events) (p .ticks) noPlace) standing;
+  told = record { number = 0; index = p .events; done = p .events; ticks = p .ticks; standing = standing; short = noPlace };
 }
 
 -- the page from a state
@@ -70,7 +70,7 @@ logOf r log′ = take (r .log) log′
 -- where there is a page, what is told is told of its log by a run from the state, which leaves the same bytes
 abbrev pub AsRun : List ℕ → List ℕ → Built → List ℕ → List ℕ → Type 0
 AsRun net state r state′ log′ =
-    r .told .number ≡ 0 → (r .told ≡ ranOn net state (logOf r log′)) × (state′ ≡ runLeft net state (logOf r log′))
+    r .told .number ≡ 0 → (r .told ≡ ranOn net state (logOf r log′)) × (state′ ≡ runLeft net state (logOf r log′) false)
 
 -- and by menurun, of the net and then the log
 abbrev pub AsReplayed : List ℕ → List ℕ → Built → List ℕ → List ℕ → Type 0

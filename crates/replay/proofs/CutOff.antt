@@ -74,11 +74,11 @@ module _ (net state log log′ : List ℕ) (why : Fault) (bad : checkLog log ≡
   refused (examined.Fit s) e = (why, rw (e, bad) refl)
   refused (examined.Unfit w) e = (w, rw e refl)
 
-  pub told-alike : runTold net state log ≡ runTold net state log′
+  pub told-alike : runTold net state log false ≡ runTold net state log′ false
   unfolding runTold
   told-alike = let r = refused _ refl in rw (r .1, sym alike ∙ r .1) refl
 
-  pub left-alike : runLeft net state log ≡ runLeft net state log′
+  pub left-alike : runLeft net state log false ≡ runLeft net state log′ false
   unfolding runLeft
   left-alike = let r = refused _ refl in rw (r .1, sym alike ∙ r .1) refl
 

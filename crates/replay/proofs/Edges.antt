@@ -4,8 +4,8 @@ use mathlib.Core.Path.{refl}
 use Rattle.model.specs.Tab.{tab, all, largest, lowest, one}
 use Rattle.model.specs.Net.{width, tokens, count, build, initialState}
 use Rattle.model.specs.Owed.{owes-start?, owes-end?, standingOf, owed}
-use Rattle.model.specs.Rules.{lackingPlace, enabled?, short, no-start-owed?, no-end-owed?, nothing-running?, timely?, has-room?, started, ended, older, ticked, apply}
-use Rattle.model.specs.Run.{inTurn, run}
+use Rattle.model.specs.Rules.{lackingPlace, enabled?, short, no-start-owed?, no-end-owed?, nothing-running?, timely?, may-end?, owes-no-old-end?, no-old-end-owed?, has-room?, started, ended, older, ticked, apply}
+use Rattle.model.specs.Run.{startedAfter, turns, inTurn, run}
 use Rattle.forms.specs.Word.{word, word32, blank?, setWord, setWord32, putWords, putRows}
 use Rattle.forms.specs.Begins.{begins?}
 use Rattle.forms.specs.Places.{rowAt, countAt, stateLength}
@@ -25,8 +25,8 @@ pub edges : Edges
 unfolding rowAt word word32 arrived? netLengthIn standingAfter replayed replayLeft initialTold initialLeft owedTold runTold runLeft
     examineNet examineState examineLog checkNet net-head? begins? checkRow some-weight? checksInTurn netOf all checkRoom afterInitial
     image headed written setWord setWord32 putWords putRows width largest countAt stateLength tokens count build tab initialState
-    checkState has-head? none-past? blank? checkLog is-log? stateOf eventsIn inTurn run apply lowest lackingPlace enabled? short started ended ticked older
-    no-start-owed? no-end-owed? nothing-running? timely? has-room? owes-start? owes-end? standingOf wordOf one owed
+    checkState has-head? none-past? blank? checkLog is-log? stateOf eventsIn startedAfter turns inTurn run apply lowest lackingPlace enabled? short started ended ticked older
+    no-start-owed? no-end-owed? nothing-running? timely? may-end? owes-no-old-end? no-old-end-owed? has-room? owes-start? owes-end? standingOf wordOf one owed
 edges = record {
   longest = refl;
   read-enough = refl;

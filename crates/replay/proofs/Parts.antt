@@ -49,8 +49,8 @@ unfolding standingAfter
 stands-late early number net state standing e h s = rw (sym e ∙ h) s
 
 -- the run, and the standing of the buffer that it left
-pub ran-on : (net state log : List ℕ) (told : RunTold) (left : List ℕ) (standing : ℕ) → told ≡ runTold net state log → left ≡ runLeft net state log
-    → standing ≡ standingAfter (told .number) net left → (withStanding told standing ≡ ranOn net state log) × (left ≡ runLeft net state log)
+pub ran-on : (net state log : List ℕ) (told : RunTold) (left : List ℕ) (standing : ℕ) → told ≡ runTold net state log false → left ≡ runLeft net state log false
+    → standing ≡ standingAfter (told .number) net left → (withStanding told standing ≡ ranOn net state log) × (left ≡ runLeft net state log false)
 ran-on net state log told left standing e l s = (rw (s, l, e) refl, l)
 
 -- THE WHOLE
@@ -65,7 +65,7 @@ module _ (input state : List ℕ) (n : ℕ) (is : n ≡ netLengthIn input) (v : 
 
   pub begun : v .number ≡ 0 → (r : Replayed) (left′ : List ℕ)
       → r ≡ ranOn (take n input) left (take (length input - n) (drop n input))
-      → left′ ≡ runLeft (take n input) left (take (length input - n) (drop n input))
+      → left′ ≡ runLeft (take n input) left (take (length input - n) (drop n input)) false
       → (r ≡ replayed input state) × (left′ ≡ replayLeft input state)
   unfolding replayed replayLeft
   begun h r left′ e f =

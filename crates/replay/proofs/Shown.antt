@@ -69,7 +69,7 @@ module _ (net state : List ℕ) where
 
 -- what holds of every state written behind the head of one of the net holds where the number told is not early
 module _ (A : List ℕ → List ℕ → Type 0) (of-written : (net : List ℕ) (S : State) (b : List ℕ) → StateHead (netOf net) b → A net (written (netOf net) S b)) where
-  ran-late : (net state log : List ℕ) (x : Examined) → examineLog net state log ≡ x → early? (runTold net state log .number) ≡ false → A net (runLeft net state log)
+  ran-late : (net state log : List ℕ) (x : Examined) → examineLog net state log ≡ x → early? (runTold net state log false .number) ≡ false → A net (runLeft net state log false)
   unfolding runTold runLeft
   ran-late net state log (examined.Fit s) e late = rw e (of-written net _ state (log-fits net s state log e .0 .is-state .head))
   ran-late net state log (examined.Unfit why) e late = not-both (fault-early why) (rw e at late)
@@ -83,7 +83,7 @@ module _ (A : List ℕ → List ℕ → Type 0) (of-written : (net : List ℕ) (
     late-holds : early? (replayed input state .number) ≡ false → A (netIn input) (replayLeft input state)
     late-holds late = by-begun _ refl late
 
-pub ran-shown : (net state log : List ℕ) → early? (runTold net state log .number) ≡ false → Shown (runLeft net state log)
+pub ran-shown : (net state log : List ℕ) → early? (runTold net state log false .number) ≡ false → Shown (runLeft net state log false)
 ran-shown net state log = ran-late (λ net b. Shown b) (λ net S b h. written-shown (netOf net) S b h) net state log _ refl
 
 pub shown : (input state : List ℕ) → early? (replayed input state .number) ≡ false → Shown (replayLeft input state)

@@ -1,6 +1,6 @@
 -- What menurun tells and leaves of its input: a net and then a log, run from the net's initial state (document 01, the program).
 -- Assumes nothing.
-use mathlib.Core.Bool.{Bool, _&&_, cond}
+use mathlib.Core.Bool.{Bool, _&&_, cond, false}
 use mathlib.Core.List.{List}
 use Prim.Native.Nat.{ℕ, _+_, _≤_}
 use lib.Dec.{eqb, leb}
@@ -66,10 +66,10 @@ withStanding told standing = record {
   short = told .short;
 }
 
--- the log run from a state
+-- the log run from a state, with no start made before it
 abbrev pub ranOn : List ℕ → List ℕ → List ℕ → Replayed
 ranOn net state log =
-    withStanding (runTold net state log) (standingAfter (runTold net state log .number) net (runLeft net state log))
+    withStanding (runTold net state log false) (standingAfter (runTold net state log false .number) net (runLeft net state log false))
 
 -- no initial state could be made
 abbrev pub notBegun : Verdict → Replayed
@@ -88,7 +88,7 @@ replayed input state =
 unfoldable pub replayLeft : List ℕ → List ℕ → List ℕ
 replayLeft input state =
     cond (begun? (netIn input) state)
-    (runLeft (netIn input) (initialLeft (netIn input) state) (logIn input))
+    (runLeft (netIn input) (initialLeft (netIn input) state) (logIn input) false)
     (initialLeft (netIn input) state)
 
 -- WHAT IS SHOWN

@@ -4,6 +4,7 @@ use forms::places;
 use forms::words;
 use model::answer::Short;
 ghost use mathlib.Core.Path.{_≡_};
+ghost use mathlib.Core.Bool.{false};
 ghost use Prim.Native.Nat.{_≤_};
 ghost use lib.ListN.{length};
 ghost use Rattle.engine.specs.Calls.{runLeft};
@@ -71,12 +72,12 @@ pub fn replay(input: &[u8], state: &mut [u8]) -> Replayed
     run_on(&input[..n], state, &input[n..])
 }
 
-// Runs the log, and asks how the state stands where it ended.
+// Runs the log, with no start made before it, and asks how the state stands where it ended.
 fn run_on(net: &[u8], state: &mut [u8], log: &[u8]) -> Replayed
     ensures { λ r. ⌜ r ≡ ranOn (now (net .entry)) (now (state .entry)) (now (log .entry)) ⌝ }
-    ensures { λ _. ⌜ now (state .exit) ≡ runLeft (now (net .entry)) (now (state .entry)) (now (log .entry)) ⌝ }
+    ensures { λ _. ⌜ now (state .exit) ≡ runLeft (now (net .entry)) (now (state .entry)) (now (log .entry)) false ⌝ }
 {
-    let told = calls::run(net, state, log);
+    let told = calls::run(net, state, log, false);
     let short = told.short;
     Replayed {
         number: told.number,

@@ -2,6 +2,7 @@
 -- least, and owes no end where no lfd is 0. So a tick or a stop comes before the bound is used up.
 -- Assumes nothing.
 use mathlib.Core.Path.{_≡_, refl, ap, _∙_}
+use mathlib.Core.Bool.{false}
 use Prim.Native.Nat.{ℕ, zero, suc, _+_, _*_, _<_}
 use native.Mathlib.Nat.{add-mul, one-mul}
 use native.Mathlib.Omega.{arith}
@@ -55,7 +56,7 @@ module _ {N : Net} {S S₁ : State} (t : ℕ) (long : NoneInstant N) (m : Starts
 
 -- AN END AT ITS LFD
 
-module _ {N : Net} {S S₁ : State} (t : ℕ) (m : Ends N S t (N .lfd t) S₁) where
+module _ {N : Net} {S S₁ : State} (t : ℕ) (m : Ends N false S t (N .lfd t) S₁) where
   end-due : due N S t ≡ due N S₁ t + 1
   end-due = omega (arith, m .counted t (N .lfd t) (m .known) (lfd-fits N t (m .known)), one-here t (N .lfd t))
 
@@ -93,7 +94,7 @@ pub data Lowers (N : Net) (S S₁ : State) : Event → Type 0 where
   ticked : Lowers N S S₁ event.Tick
   lowered : {e : Event} → bound N S₁ < bound N S → Lowers N S S₁ e
 
-pub lowers : {N : Net} {S : State} (S₁ : State) {e : Event} → Proper N → NoneInstant N → Chooses N S e → Moves N S e S₁ → Lowers N S S₁ e
+pub lowers : {N : Net} {S : State} (S₁ : State) {e : Event} → Proper N → NoneInstant N → Chooses N S e → Moves N false S e S₁ → Lowers N S S₁ e
 lowers S₁ proper long (Chooses.end {t} o) m = Lowers.lowered (end-lowers t m)
 lowers S₁ proper long (Chooses.start {t} none o) m = Lowers.lowered (start-lowers t long m proper)
 lowers S₁ proper long (Chooses.tick none none′ runs) m = Lowers.ticked
@@ -132,15 +133,15 @@ module _ (N : Net) (proper : Proper N) (long : NoneInstant N) where
       refuses Met.count-full = halts stop.CountFull S (bound N S) (λ e. omega arith) (λ e. omega arith)
       refuses Met.place-full = halts stop.PlaceFull S (bound N S) (λ e. omega arith) (λ e. omega arith)
 
-      onward : (e : Event) → More → Chooses N S e → (o : Outcome) → apply N S e ≡ o
+      onward : (e : Event) → More → Chooses N S e → (o : Outcome) → apply N false S e ≡ o
           → Soon (by o (λ S₁. behind e (page N S₁ room budget)) (λ why. halted (stopFor e) S)) (bound N S)
       onward e more c (done S₁) d =
-          after e S₁ more (lowers S₁ proper long c (apply-exact N S e S₁ .0 d))
-      onward e more c (refused why) d = refuses (met N proper S c (apply-refuses N S e why .0 d))
+          after e S₁ more (lowers S₁ proper long c (apply-exact N false S e S₁ .0 d))
+      onward e more c (refused why) d = refuses (met N proper S c (apply-refuses N false S e why .0 d))
 
       go : More → (c : Choice) → Picks N S c
           → Soon
           (chosen c (halted stop.AtRest S)
-          (λ e. by (apply N S e) (λ S₁. behind e (page N S₁ room budget)) (λ why. halted (stopFor e) S))) (bound N S)
+          (λ e. by (apply N false S e) (λ S₁. behind e (page N S₁ room budget)) (λ why. halted (stopFor e) S))) (bound N S)
       go more rest a = halts stop.AtRest S (bound N S) (λ e. omega arith) (λ e. omega arith)
-      go more (next e) c = onward e more c (apply N S e) refl
+      go more (next e) c = onward e more c (apply N false S e) refl

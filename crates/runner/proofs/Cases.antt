@@ -1,6 +1,7 @@
 -- The worked examples hold.
 -- Assumes nothing.
 use mathlib.Core.Path.{_≡_, refl, ap, _∙_}
+use mathlib.Core.Bool.{false}
 use mathlib.Core.List.{List, [], _∷_}
 use Prim.Native.Nat.{ℕ, zero, suc, _<_, _≤_}
 use native.Mathlib.Nat.{not-suc-le-zero, zero-add}
@@ -10,7 +11,7 @@ use Rattle.model.specs.declared.event.Event.{Event}
 use Rattle.model.specs.declared.event.Event.the-variants as event
 use Rattle.model.specs.Tab.{tab, all, largest, lowest, one}
 use Rattle.model.specs.Net.{State, HasInput, HasOutput, width, tokens, count, build, initialState}
-use Rattle.model.specs.Rules.{done, lackingPlace, enabled?, no-start-owed?, no-end-owed?, nothing-running?, timely?, has-room?, started, ended, older, ticked, apply}
+use Rattle.model.specs.Rules.{done, lackingPlace, enabled?, no-start-owed?, no-end-owed?, nothing-running?, timely?, may-end?, owes-no-old-end?, no-old-end-owed?, has-room?, started, ended, older, ticked, apply}
 use Rattle.model.specs.Run.{ticksIn, eventAt}
 use Rattle.model.specs.Owed.{owes-start?, owes-end?}
 use Rattle.model.specs.Cases.{childrensRow, slowMiddle}
@@ -22,7 +23,7 @@ use Rattle.runner.specs.Bound.{total, owedEnds, allTokensAfter, Soon}
 use Rattle.runner.specs.Cases.{RowPages, twoOwed, LowestPages, spin, NeverTicks}
 
 pub row-pages : RowPages
-unfolding tab all largest lowest one width tokens count build initialState lackingPlace enabled? no-start-owed? no-end-owed? nothing-running? timely? has-room? started ended older ticked apply owes-start? owes-end? childrensRow choice page
+unfolding tab all largest lowest one width tokens count build initialState lackingPlace enabled? no-start-owed? no-end-owed? nothing-running? timely? may-end? owes-no-old-end? no-old-end-owed? has-room? started ended older ticked apply owes-start? owes-end? childrensRow choice page
 row-pages = record {
   whole = refl;
   exactly = refl;
@@ -58,7 +59,7 @@ later p is (Soon.ticks k l b q) = not-yet k l (rw is at q)
 later p is (Soon.stops l b f) = let n : length (p .events) ≡ 7 = ap length is in omega arith
 
 pub lowest-pages : LowestPages
-unfolding tab all largest lowest one width tokens count build initialState lackingPlace enabled? no-start-owed? no-end-owed? nothing-running? timely? has-room? started ended older ticked apply owes-start? owes-end? slowMiddle choice page total owedEnds allTokensAfter
+unfolding tab all largest lowest one width tokens count build initialState lackingPlace enabled? no-start-owed? no-end-owed? nothing-running? timely? may-end? owes-no-old-end? no-old-end-owed? has-room? started ended older ticked apply owes-start? owes-end? slowMiddle choice page total owedEnds allTokensAfter
 lowest-pages = record {
   lowest-start = refl;
   lowest-end = refl;
@@ -84,16 +85,16 @@ chooses-start : choice spin resting ≡ next (event.Start 0)
 unfolding tab all largest lowest width tokens count lackingPlace enabled? no-start-owed? no-end-owed? nothing-running? owes-start? owes-end? spin choice resting
 chooses-start = refl
 
-does-start : apply spin resting (event.Start 0) ≡ done spinning
-unfolding tab all largest lowest one width tokens count build lackingPlace enabled? started apply spin resting spinning
+does-start : apply spin false resting (event.Start 0) ≡ done spinning
+unfolding tab all largest lowest one width tokens count build lackingPlace enabled? owes-no-old-end? no-old-end-owed? started apply spin resting spinning
 does-start = refl
 
 chooses-end : choice spin spinning ≡ next (endAtLfd spin 0)
 unfolding tab all largest lowest width tokens count lackingPlace enabled? no-start-owed? no-end-owed? nothing-running? owes-start? owes-end? spin choice spinning
 chooses-end = refl
 
-does-end : apply spin spinning (endAtLfd spin 0) ≡ done resting
-unfolding tab all largest one width tokens count build timely? has-room? ended apply spin resting spinning
+does-end : apply spin false spinning (endAtLfd spin 0) ≡ done resting
+unfolding tab all largest one width tokens count build timely? may-end? owes-no-old-end? no-old-end-owed? has-room? ended apply spin resting spinning
 does-end = refl
 
 round : (room budget : ℕ) → budget ≤ room → page spin resting room budget .stop ≡ stop.BudgetSpent

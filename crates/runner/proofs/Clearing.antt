@@ -1,6 +1,7 @@
 -- What is known of a state before it is looked at: nothing at first, and behind each event what the event leaves.
 -- Assumes nothing.
 use mathlib.Core.Path.{_≡_}
+use mathlib.Core.Bool.{false}
 use Prim.Native.Nat.{ℕ, _+_, _<_, _≤_}
 use native.Mathlib.Omega.{arith}
 use Rattle.model.specs.declared.event.Event.{Event}
@@ -25,7 +26,7 @@ clear-first N S some = record {
 
 module _ {N : Net} {S S₁ : State} {t u : ℕ} (b : u < N .transitions) (off : ¬ (t ≡ u)) where
   -- the ends that another transition owes are as they were
-  end-same : {j : ℕ} → Ends N S t j S₁ → count S₁ u (N .lfd u) ≡ count S u (N .lfd u)
+  end-same : {j : ℕ} → Ends N false S t j S₁ → count S₁ u (N .lfd u) ≡ count S u (N .lfd u)
   end-same {j} m = omega (arith, m .counted u (N .lfd u) b (lfd-fits N u b), one-off t j u (N .lfd u) (λ e _. off e))
 
   start-same : Starts N S t S₁ → count S₁ u (N .lfd u) ≡ count S u (N .lfd u)
@@ -36,7 +37,7 @@ start-shrinks : {N : Net} {S S₁ : State} {t : ℕ} (u : ℕ) → Starts N S t 
 start-shrinks u m en p l = omega (arith, en p l, m .marked p l)
 
 module _ (N : Net) (S : State) (lawful : Lawful N S) (S₁ : State) where
-  pub clear-next : {e : Event} → Chooses N S e → Moves N S e S₁ → IsClear N S₁ (clearAfter e (N .transitions))
+  pub clear-next : {e : Event} → Chooses N S e → Moves N false S e S₁ → IsClear N S₁ (clearAfter e (N .transitions))
   clear-next (Chooses.end {t} (o, lower)) m = record {
     ends-known = omega (arith, o .0);
     starts-known = omega arith;

@@ -3,7 +3,7 @@
 use mathlib.Core.Path.{refl}
 use Rattle.model.specs.Tab.{tab, all, largest, lowest, one}
 use Rattle.model.specs.Net.{width, tokens, count, build}
-use Rattle.model.specs.Rules.{lackingPlace, enabled?, no-start-owed?, no-end-owed?, nothing-running?, timely?, has-room?, started, ended, older, ticked, apply}
+use Rattle.model.specs.Rules.{lackingPlace, enabled?, no-start-owed?, no-end-owed?, nothing-running?, timely?, may-end?, owes-no-old-end?, no-old-end-owed?, has-room?, started, ended, older, ticked, apply}
 use Rattle.model.specs.Run.{ticksIn}
 use Rattle.model.specs.Owed.{owes-start?, owes-end?}
 use Rattle.forms.specs.Word.{word, word32, blank?, setWord, putWords, putRows}
@@ -27,7 +27,7 @@ unfolding pageTold stateLeft logLeft examinePage examineNet examineState
     checkNet net-head? checkRow some-weight? checkState has-head? none-past? begins? inTurn
     netOf stateOf word word32 blank? setWord putWords putRows rowAt countAt stateLength written logBytes pairsOf
     page choice ticksIn owes-start? owes-end? apply started ended ticked older
-    lackingPlace enabled? no-start-owed? no-end-owed? nothing-running? timely? has-room? width tokens count build tab all largest lowest one
+    lackingPlace enabled? no-start-owed? no-end-owed? nothing-running? timely? may-end? owes-no-old-end? no-old-end-owed? has-room? width tokens count build tab all largest lowest one
 pages-on-bytes = record {
   whole = (refl, refl, refl);
   no-budget = (refl, refl, refl);

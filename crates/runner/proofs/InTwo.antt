@@ -6,7 +6,7 @@ use Prim.Native.Nat.{ℕ, _+_, _≤_}
 use lib.ListN.{length, length-append}
 use Rattle.model.specs.declared.net.Net.{Net as Shape}
 use Rattle.model.specs.Run.{ticksIn}
-use Rattle.model.proofs.Reversed.{ticks-append}
+use Rattle.model.proofs.Run.{ticks-append}
 use Rattle.forms.specs.Word.{Bytes}
 use Rattle.forms.specs.Stored.{netOf, stored, logEvents}
 use Rattle.forms.specs.Written.{written}

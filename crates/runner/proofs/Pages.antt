@@ -1,6 +1,7 @@
 -- The page that is computed is the one to be written, and no other is.
 -- Assumes nothing.
 use mathlib.Core.Path.{_≡_, refl, sym, ap, subst, _∙_}
+use mathlib.Core.Bool.{Bool, true, false, cond}
 use mathlib.Core.Logic.{_↔_}
 use mathlib.Core.List.{List, [], _∷_, _++_}
 use Prim.Native.Nat.{ℕ, zero, suc, _+_, _-_, _<_, _≤_}
@@ -10,13 +11,15 @@ use Rattle.model.specs.declared.event.Event.{Event}
 use Rattle.model.specs.declared.answer.Standing.the-variants as standing
 use Rattle.model.specs.Answer.{numberOfStanding}
 use Rattle.model.specs.Net.{Net, State, Proper}
-use Rattle.model.specs.Moves.{Moves}
+use Rattle.model.specs.Moves.{startedBy, MayEnd, NoOldEndOwed, Moves}
 use Rattle.model.specs.Rules.{Outcome, done, refused, apply}
 use Rattle.model.specs.Run.{by, Leads, stay, move, run, acceptedRun}
-use Rattle.model.specs.Owed.{Stands, standingOf}
+use Rattle.model.specs.Owed.{OwesEnd, Stands, standingOf}
+use Rattle.model.proofs.Tab.{below-or-past}
 use Rattle.model.proofs.Forward.{apply-exact, moves-once}
 use Rattle.model.proofs.Refusals.{apply-refuses}
 use Rattle.model.proofs.Run.{run-exact}
+use Rattle.model.proofs.Order.{settles}
 use Rattle.model.proofs.Owed.{standing-exact}
 use Rattle.runner.specs.declared.stop.Stop.{Stop}
 use Rattle.runner.specs.declared.stop.Stop.the-variants as stop
@@ -35,7 +38,7 @@ halted-right N S room budget s h =
     let b : budget - 0 ≡ budget = omega arith in
     record { built = Builds.nothing; fits = omega arith; within = omega arith; stops = rw (r, b) h }
 
-behind-right : (N : Net) (S S₁ : State) (e : Event) (room budget : ℕ) (p : Page) → Chooses N S e → Moves N S e S₁
+behind-right : (N : Net) (S S₁ : State) (e : Event) (room budget : ℕ) (p : Page) → Chooses N S e → Moves N false S e S₁
     → IsPage N S₁ room budget p → IsPage N S (suc room) (suc budget) (behind e p)
 behind-right N S S₁ e room budget p c m h =
     let r : suc room - suc (length (p .events)) ≡ room - length (p .events) = omega arith in
@@ -64,19 +67,19 @@ module _ (N : Net) (proper : Proper N) where
       go (next e) c = halted-right N S 0 (suc budget) stop.LogFull (stops-full N S 0 (suc budget) e c (omega arith) refl)
   page-right (suc room) (suc budget) S = go (λ S₁. page-right room budget S₁) (choice N S) (choice-picks N S)
     where
-      onward : ((S₁ : State) → IsPage N S₁ room budget (page N S₁ room budget)) → (e : Event) → Chooses N S e → (o : Outcome) → apply N S e ≡ o
+      onward : ((S₁ : State) → IsPage N S₁ room budget (page N S₁ room budget)) → (e : Event) → Chooses N S e → (o : Outcome) → apply N false S e ≡ o
           → IsPage N S (suc room) (suc budget) (by o (λ S₁. behind e (page N S₁ room budget)) (λ why. halted (stopFor e) S))
-      onward more e c (done S₁) d = behind-right N S S₁ e room budget _ c (apply-exact N S e S₁ .0 d) (more S₁)
+      onward more e c (done S₁) d = behind-right N S S₁ e room budget _ c (apply-exact N false S e S₁ .0 d) (more S₁)
       onward more e c (refused why) d =
           halted-right N S (suc room) (suc budget) (stopFor e)
-          (stops-met N proper S (suc room) (suc budget) e why c (apply-refuses N S e why .0 d) (omega arith) (omega arith))
+          (stops-met N proper S (suc room) (suc budget) e why c (apply-refuses N false S e why .0 d) (omega arith) (omega arith))
 
       go : ((S₁ : State) → IsPage N S₁ room budget (page N S₁ room budget)) → (c : Choice) → Picks N S c
           → IsPage N S (suc room) (suc budget)
           (chosen c (halted stop.AtRest S)
-          (λ e. by (apply N S e) (λ S₁. behind e (page N S₁ room budget)) (λ why. halted (stopFor e) S)))
+          (λ e. by (apply N false S e) (λ S₁. behind e (page N S₁ room budget)) (λ why. halted (stopFor e) S)))
       go more rest a = halted-right N S (suc room) (suc budget) stop.AtRest (stops-rest N S (suc room) (suc budget) a)
-      go more (next e) c = onward more e c (apply N S e) refl
+      go more (next e) c = onward more e c (apply N false S e) refl
 
 -- AND NO OTHER
 
@@ -90,7 +93,7 @@ module _ (N : Net) where
 
   -- where an event is done, the runner did not stop before it
   stops-now : (S S₁ S′ : State) (e : Event) (es : List Event) (room budget : ℕ) (s r : Stop) {C : Type 0}
-      → Chooses N S e → Moves N S e S₁ → StopsBehind S room budget [] s → StopsBehind S′ room budget (e ∷ es) r → C
+      → Chooses N S e → Moves N false S e S₁ → StopsBehind S room budget [] s → StopsBehind S′ room budget (e ∷ es) r → C
   unfolding StopsBehind
   stops-now S S₁ S′ e es room budget s r c m (_, _, h) (f, g, _) =
       absurd (goes-on N S (room - 0) (budget - 0) e c S₁ m (omega arith) (omega arith) s (h .holds))
@@ -118,7 +121,7 @@ module _ (N : Net) where
       stops-now S S₁ S′ e es room budget r s c m k h
   once room budget s r (Builds.more {S} {S₁} {S′} {e} {es} c m w) (Builds.more {S₁ = T₁} {S′ = T′} {e = f} {es = fs} c′ m′ w′) h k =
       let q : e ≡ f = chooses-once N S c c′ in
-      let same : S₁ ≡ T₁ = moves-once N S e S₁ T₁ m (subst (λ (x : Event). Moves N S x T₁) (sym q) m′) in
+      let same : S₁ ≡ T₁ = moves-once N false S e S₁ T₁ m (subst (λ (x : Event). Moves N false S x T₁) (sym q) m′) in
       let v : Builds N S₁ fs T′ = subst (λ (X : State). Builds N X fs T′) (sym same) w′ in
       let (x, y, z) = once (room - 1) (budget - 1) s r w v (less S′ e es room budget s h) (less T′ f fs room budget r k) in
       ((λ i. q i ∷ x i), y, z)
@@ -140,9 +143,35 @@ module _ (N : Net) (proper : Proper N) where
 
 -- ITS LOG IS ACCEPTED
 
-pub builds-lead : {N : Net} {S S′ : State} {es : List Event} → Builds N S es S′ → Leads N S es S′
-builds-lead Builds.nothing = stay
-builds-lead (Builds.more c m w) = move m (builds-lead w)
+-- an end that is owed where none of age 1 or more is has age 0
+young : (N : Net) (S : State) (b : Bool) (t : ℕ) → (b ≡ true → NoOldEndOwed N S) → OwesEnd N S t → MayEnd b (N .lfd t)
+young N S true t known o = below-or-past 0 (N .lfd t) (λ old. absurd (omega (arith, known refl t (o .0) old, o .1))) (λ z. omega arith)
+young N S false t known o = tt
+
+-- so the chosen event is permitted behind a start too, where none of age 1 or more is owed
+permitted : {N : Net} (b : Bool) {S : State} (S₁ : State) {e : Event} → (b ≡ true → NoOldEndOwed N S) → Chooses N S e → Moves N false S e S₁ → Moves N b S e S₁
+permitted {N} b {S} S₁ known (Chooses.end {t} (o, lower)) m = record {
+  known = m .known;
+  timely = m .timely;
+  may-end = young N S b t known o;
+  active = m .active;
+  room = m .room;
+  marked = m .marked;
+  counted = m .counted;
+  shaped = m .shaped;
+}
+permitted b S₁ known (Chooses.start none o) m = m
+permitted b S₁ known (Chooses.tick none none′ runs) m = m
+
+pub builds-lead : {N : Net} (b : Bool) {S S′ : State} {es : List Event} → (b ≡ true → NoOldEndOwed N S) → Builds N S es S′ → Leads N b S es S′
+builds-lead b known Builds.nothing = stay
+builds-lead {N} b known (Builds.more {S} {S₁} {e = e} c m w) =
+    let p = permitted b S₁ known c m in
+    move p (builds-lead (startedBy b e) (settles N b S S₁ b e p known) w)
+
+-- where no start has been made nothing need be known
+pub opening : {A : Type 0} → false ≡ true → A
+opening e = let z : _≡_ {A = ℕ} 1 0 = ap (λ (b : Bool). cond b 0 1) e in absurd (omega arith)
 
 builds-append : {N : Net} {S S₁ S′ : State} {es fs : List Event} → Builds N S es S₁ → Builds N S₁ fs S′ → Builds N S (es ++ fs) S′
 builds-append Builds.nothing w = w
@@ -150,11 +179,11 @@ builds-append (Builds.more c m v) w = Builds.more c m (builds-append v w)
 
 module _ (N : Net) (proper : Proper N) (S : State) where
   -- a run of its events is accepted, tells them and their ticks, and reaches the runner's own state
-  pub page-accepted : (room budget : ℕ)
-      → run N S (page N S room budget .events) ≡ acceptedRun (page N S room budget .events) (page N S room budget .state)
-  page-accepted room budget =
+  pub page-accepted : (room budget : ℕ) (b : Bool) → (b ≡ true → NoOldEndOwed N S)
+      → run N b S (page N S room budget .events) ≡ acceptedRun b (page N S room budget .events) (page N S room budget .state)
+  page-accepted room budget b known =
       let p = page N S room budget in
-      run-exact N S (p .events) (p .state) .1 (builds-lead (page-right N proper room budget S .built))
+      run-exact N b S (p .events) (p .state) .1 (builds-lead b known (page-right N proper room budget S .built))
 
   -- where it stopped at rest, the standing is 4
   pub page-at-rest : (room budget : ℕ) → page N S room budget .stop ≡ stop.AtRest

@@ -1,7 +1,7 @@
 -- The stops: a state has one first stop at most; and a chosen event is done or meets 14 or 17.
 -- Assumes nothing.
 use mathlib.Core.Path.{_≡_, refl, sym, ap, _∙_}
-use mathlib.Core.Bool.{cond}
+use mathlib.Core.Bool.{cond, false}
 use Prim.Native.Nat.{ℕ, _<_, _≤_}
 use lib.Dec.{eqb}
 use native.Mathlib.Omega.{arith}
@@ -88,16 +88,16 @@ module _ (N : Net) (S : State) (room budget : ℕ) where
     }
 
     -- a refusal is told of the chosen event once
-    meets-once : (why told : Refusal) → Refuses N S e why → Meets N S told → refused why ≡ refused told
+    meets-once : (why told : Refusal) → Refuses N false S e why → Meets N S told → refused why ≡ refused told
     meets-once why told f (e′, c′, f′) =
-        sym (apply-refuses N S e why .1 f) ∙ ap (apply N S) (chooses-once N S c c′) ∙ apply-refuses N S e′ told .1 f′
+        sym (apply-refuses N false S e why .1 f) ∙ ap (apply N false S) (chooses-once N S c c′) ∙ apply-refuses N false S e′ told .1 f′
 
-    done-not-met : (S₁ : State) (why : Refusal) → Moves N S e S₁ → ¬ Meets N S why
+    done-not-met : (S₁ : State) (why : Refusal) → Moves N false S e S₁ → ¬ Meets N S why
     done-not-met S₁ why m (e′, c′, f) =
-        never (sym (apply-exact N S e S₁ .1 m) ∙ ap (apply N S) (chooses-once N S c c′) ∙ apply-refuses N S e′ why .1 f)
+        never (sym (apply-exact N false S e S₁ .1 m) ∙ ap (apply N false S) (chooses-once N S c c′) ∙ apply-refuses N false S e′ why .1 f)
 
     -- an event that is done does not stop the runner
-    pub goes-on : (S₁ : State) → Moves N S e S₁ → 0 < room → 0 < budget → (s : Stop) → ¬ Says N S room budget s
+    pub goes-on : (S₁ : State) → Moves N false S e S₁ → 0 < room → 0 < budget → (s : Stop) → ¬ Says N S room budget s
     goes-on S₁ m r b stop.AtRest a = rest-chooses N S a c
     goes-on S₁ m r b stop.BudgetSpent z = omega arith
     goes-on S₁ m r b stop.LogFull z = omega arith
@@ -147,27 +147,29 @@ pub data Met : Event → Refusal → Type 0 where
   place-full : {t : ℕ} {age : Age} → Met (event.End t age) refusal.PlaceFull
 
 module _ (N : Net) (proper : Proper N) (S : State) where
-  pub met : {e : Event} {why : Refusal} → Chooses N S e → Refuses N S e why → Met e why
+  pub met : {e : Event} {why : Refusal} → Chooses N S e → Refuses N false S e why → Met e why
   met (Chooses.end (o, lower)) (Refuses.unfit (Unfit.no-such-end a)) = absurd (a (o .0))
   met (Chooses.end (o, lower)) (Refuses.not-enabled (u, e, l, f)) = let z : _≡_ {A = ℕ} 0 1 = cc in absurd (omega arith)
   met (Chooses.end {t} (o, lower)) (Refuses.outside-interval l a) = absurd (a (proper .interval t l, omega arith))
-  met (Chooses.end (o, lower)) (Refuses.none-of-that-age l i a) = absurd (a (o .1))
-  met (Chooses.end (o, lower)) (Refuses.place-full l i c a) = Met.place-full
+  met (Chooses.end (o, lower)) (Refuses.old-after-start l i a) = absurd (a tt)
+  met (Chooses.end (o, lower)) (Refuses.none-of-that-age l i _ a) = absurd (a (o .1))
+  met (Chooses.end (o, lower)) (Refuses.place-full l i _ c a) = Met.place-full
   met (Chooses.start none (o, lower)) (Refuses.unfit (Unfit.no-such-start a)) = absurd (a (o .0))
   met (Chooses.start {t} none (o, lower)) (Refuses.not-enabled (u, e, l, f)) =
       let same : t ≡ u = cc in absurd (lacks-fails N S u f (rw (← same) (o .1)))
-  met (Chooses.start none (o, lower)) (Refuses.count-full l en a) = Met.count-full
+  met (Chooses.start none (o, lower)) (Refuses.old-end-owed l en a) = absurd (a (λ u b old. none u b))
+  met (Chooses.start none (o, lower)) (Refuses.count-full l en _ a) = Met.count-full
   met (Chooses.tick none none′ runs) (Refuses.not-enabled (u, e, l, f)) = let z : _≡_ {A = ℕ} 0 1 = cc in absurd (omega arith)
   met (Chooses.tick none none′ runs) (Refuses.start-owed a) = absurd (a none′)
   met (Chooses.tick none none′ runs) (Refuses.end-owed n a) = absurd (a none)
   met (Chooses.tick none none′ runs) (Refuses.nothing-running n d a) = absurd (runs a)
 
   -- and then that is the stop
-  pub stops-met : (room budget : ℕ) (e : Event) (why : Refusal) → Chooses N S e → Refuses N S e why → 0 < room → 0 < budget
+  pub stops-met : (room budget : ℕ) (e : Event) (why : Refusal) → Chooses N S e → Refuses N false S e why → 0 < room → 0 < budget
       → Stops N S room budget (stopFor e)
   stops-met room budget e why c f r b = go (met c f) c f
     where
-      go : {e : Event} {why : Refusal} → Met e why → Chooses N S e → Refuses N S e why → Stops N S room budget (stopFor e)
+      go : {e : Event} {why : Refusal} → Met e why → Chooses N S e → Refuses N false S e why → Stops N S room budget (stopFor e)
       go (Met.count-full {t}) c f = record {
         holds = (event.Start t, c, f);
         first = firsts N S room budget stop.CountFull (λ _ a. rest-chooses N S a c) (λ _ z. omega arith) (λ _ z. omega arith)

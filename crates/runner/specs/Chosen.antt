@@ -24,6 +24,12 @@ tick? (event.Start t) = false
 tick? (event.End t age) = false
 tick? event.Malformed = false
 
+abbrev pub start? : Event → Bool
+start? event.Tick = false
+start? (event.Start t) = true
+start? (event.End t age) = false
+start? event.Malformed = false
+
 -- the tests of a tick pass
 abbrev pub FreeToTick : Net → State → Type 0
 FreeToTick N S = (no-start-owed? N S ≡ true) × (no-end-owed? N S ≡ true) × (nothing-running? N S ≡ false)

@@ -1,11 +1,13 @@
 -- What is demanded of the runner, of a net of the model.
 -- Assumes nothing.
 use mathlib.Core.Path.{_≡_}
+use mathlib.Core.Bool.{true, false}
 use mathlib.Core.Logic.{_↔_}
 use Prim.Native.Nat.{ℕ, _+_, _<_, _≤_}
 use lib.ListN.{length}
 use Rattle.model.specs.Answer.{numberOfStanding}
 use Rattle.model.specs.Net.{Net, State}
+use Rattle.model.specs.Moves.{NoOldEndOwed}
 use Rattle.model.specs.Run.{run, acceptedRun}
 use Rattle.model.specs.Owed.{standingOf}
 use Rattle.runner.specs.declared.stop.Stop.the-variants as stop
@@ -30,9 +32,14 @@ pub record PageDemands (N : Net) : Type 0 where
   pub choice-is : (S : State) (c : Choice) → (choice N S ≡ c) ↔ Picks N S c
   -- each event is the one chosen, and the stop told is the first that holds; nothing else could be written or told
   pub page-is : (S : State) (room budget : ℕ) (p : Page) → (p ≡ page N S room budget) ↔ IsPage N S room budget p
-  -- a run of its events is accepted, tells them and their ticks, and reaches the runner's own state
+  -- A run of its events that begins with no start made is accepted, tells them and their ticks, and reaches the runner's own state: an owed end
+  -- is chosen before every start, so a start finds none that is owed, and until the next tick only firings of age 0 come to be owed (request W5)
   pub accepted : (S : State) (room budget : ℕ)
-      → run N S (page N S room budget .events) ≡ acceptedRun (page N S room budget .events) (page N S room budget .state)
+      → run N false S (page N S room budget .events) ≡ acceptedRun false (page N S room budget .events) (page N S room budget .state)
+  -- and so is one behind a start, where no end of age 1 or more is owed: as it is where a run of the page before told that a start has happened
+  -- (`settled` of the model's StepOrder)
+  pub accepted-behind : (S : State) (room budget : ℕ) → NoOldEndOwed N S
+      → run N true S (page N S room budget .events) ≡ acceptedRun true (page N S room budget .events) (page N S room budget .state)
   -- where it stopped at rest, the standing is 4
   pub at-rest : (S : State) (room budget : ℕ) → page N S room budget .stop ≡ stop.AtRest
       → numberOfStanding (standingOf N (page N S room budget .state)) ≡ 4

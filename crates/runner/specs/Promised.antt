@@ -2,12 +2,14 @@
 -- (b′) and of the log's (log′), in the form of the engine's promises: `PagePromise` is the last clause of its contract in src/call.rt.
 -- Assumes nothing.
 use mathlib.Core.Path.{_≡_}
+use mathlib.Core.Bool.{Bool, true}
 use mathlib.Core.Logic.{_↔_}
 use mathlib.Core.List.{List, _++_}
 use Prim.Native.Nat.{ℕ, _+_, _<_, _≤_}
 use lib.ListN.{length, take, drop}
 use Rattle.model.specs.Limits.{Logged}
-use Rattle.model.specs.Run.{ticksIn}
+use Rattle.model.specs.Moves.{NoOldEndOwed}
+use Rattle.model.specs.Run.{ticksIn, startedAfter}
 use Rattle.forms.specs.declared.fault.Fault.{Fault}
 use Rattle.forms.specs.declared.fault.Fault.the-variants as fault
 use Rattle.forms.specs.Checked.{numberOfFault, indexOfFault}
@@ -61,9 +63,11 @@ pub record PageBuilt (net b log : List ℕ) (budget : ℕ) (r : PageTold) (b′ 
   pub reads : logEvents (front (r .events) log′) ≡ page .events
   pub stays : drop (logLength (r .events)) log′ ≡ drop (logLength (r .events)) log
   pub long : length log′ ≡ length log
-  -- run by the engine from the state that was given, that log is accepted, tells the same events and ticks, and leaves the very same bytes
-  pub run-tells : runTold net b (front (r .events) log′) ≡ saysRun 0 (r .events) (r .events) (r .ticks) noPlace
-  pub run-leaves : runLeft net b (front (r .events) log′) ≡ b′
+  -- Run by the engine from the state that was given, that log is accepted, tells the same events and ticks, and leaves the very same bytes: with
+  -- no start made, and behind a start where that state owes no end of age 1 or more
+  pub run-tells : (started : Bool) → (started ≡ true → NoOldEndOwed (netOf net) (stored net b))
+      → runTold net b (front (r .events) log′) started ≡ saysRun 0 (r .events) (r .events) (r .ticks) noPlace (startedAfter started (page .events))
+  pub run-leaves : (started : Bool) → (started ≡ true → NoOldEndOwed (netOf net) (stored net b)) → runLeft net b (front (r .events) log′) started ≡ b′
   -- if no lfd is 0, and budget and buffer suffice, a tick or a stop comes within one more event than the bound. (No buffer suffices for a
   -- bound of 24,000 or more; `PageDemands.soon` has it for any room)
   pub soon : NoneInstant (netOf net) → bound (netOf net) (stored net b) < roomOf (length log) → bound (netOf net) (stored net b) < budget

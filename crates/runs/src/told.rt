@@ -4,14 +4,15 @@ use model::answer::Short;
 ghost use mathlib.Core.Path.{_≡_};
 ghost use Rattle.runs.specs.Runs.{runFault, walkFault};
 
-// Of a run: document 01's number and index, how many events were done, how many of them were ticks, and the place that is short, which 13
-// alone tells. The index is the event refused; the transition for 4, 5, 6 and 9; of an accepted run the number of events; and else 0.
+// Of a run: document 01's number and index, how many events were done, how many of them were ticks, the place that is short, which 13
+// alone tells, and whether a start has happened in the step of the state that is left. The index is the event refused; the transition for 4, 5, 6 and 9; of an accepted run the number of events; and else 0.
 pub struct RunTold {
     pub number: u8,
     pub index: usize,
     pub done: usize,
     pub ticks: usize,
     pub short: Short,
+    pub started: bool,
 }
 
 // Of a walk back: number and index, how many events were taken back, and how many of them were ticks. The index is the
@@ -35,6 +36,7 @@ impl RunTold {
             done: 0,
             ticks: 0,
             short: Short::nothing(),
+            started: false,
         }
     }
 }

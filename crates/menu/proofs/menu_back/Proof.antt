@@ -9,8 +9,8 @@ use Rattle.menu.proofs.menu_back.Tie as tie
 back-requires : tie.Need-back-requires
 back-requires c κs = search needs
 
-cast-t9 : tie.Need-cast-t9
-cast-t9 c = search needs
+cast-t11 : tie.Need-cast-t11
+cast-t11 c = search needs
 
 same-length : tie.Need-same-length
 same-length c = search needs
@@ -21,4 +21,4 @@ returns c =
     (ap verdictFields (told .ensures .0), (told .ensures .1 .0, (told .result, refl, told .ensures .1 .1)))
 
 pub menu-back-spec : {M : Type 1} → statement M
-menu-back-spec = tie.close (tie.spec back-requires cast-t9 same-length returns)
+menu-back-spec = tie.close (tie.spec back-requires cast-t11 same-length returns)

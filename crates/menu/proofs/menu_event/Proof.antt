@@ -9,14 +9,14 @@ use Rattle.menu.proofs.menu_event.Tie as tie
 event-requires : tie.Need-event-requires
 event-requires c κs = search needs
 
-cast-t10 : tie.Need-cast-t10
-cast-t10 c = search needs
-
 cast-t12 : tie.Need-cast-t12
 cast-t12 c = search needs
 
-cast-t13 : tie.Need-cast-t13
-cast-t13 c = search needs
+cast-t14 : tie.Need-cast-t14
+cast-t14 c = search needs
+
+cast-t15 : tie.Need-cast-t15
+cast-t15 c = search needs
 
 same-length : tie.Need-same-length
 same-length c = search needs
@@ -27,4 +27,4 @@ returns c =
     (ap eventFields (told .ensures .0), (told .ensures .1 .0, (told .result, refl, told .ensures .1 .1)))
 
 pub menu-event-spec : {M : Type 1} → statement M
-menu-event-spec = tie.close (tie.spec event-requires cast-t10 cast-t12 cast-t13 same-length returns)
+menu-event-spec = tie.close (tie.spec event-requires cast-t12 cast-t14 cast-t15 same-length returns)

@@ -9,8 +9,8 @@ use Rattle.menu.proofs.menu_walk.Tie as tie
 walk-requires : tie.Need-walk-requires
 walk-requires c κs = search needs
 
-cast-t9 : tie.Need-cast-t9
-cast-t9 c = search needs
+cast-t11 : tie.Need-cast-t11
+cast-t11 c = search needs
 
 same-length : tie.Need-same-length
 same-length c = search needs
@@ -21,4 +21,4 @@ returns c =
     (ap walkFields (told .ensures .0), (told .ensures .1 .0, (told .result, refl, told .ensures .1 .1)))
 
 pub menu-walk-spec : {M : Type 1} → statement M
-menu-walk-spec = tie.close (tie.spec walk-requires cast-t9 same-length returns)
+menu-walk-spec = tie.close (tie.spec walk-requires cast-t11 same-length returns)

@@ -59,7 +59,7 @@ unfolding runTold runLeft
 returns c =
     let f = c .before .before .before .before .before .before in
     let k = f .before .before .before .before in
-    run-promised _ (bytes k) _ (small k) _ (few k) _ _
+    run-promised _ (bytes k) _ (small k) _ (few k) _ _ _
     (rw (sym (f .before .before .examine-log .ensures) ∙ f .shape .given .1, ← rest) (c .before .before .run .ensures))
 
 same-length-2 : tie.Need-same-length-2
@@ -70,7 +70,7 @@ unfolding runTold runLeft
 returns-2 c =
     let f = c .before .before in
     let k = f .before .before .before .before in
-    run-promised _ (bytes k) _ (small k) _ (few k) _ _
+    run-promised _ (bytes k) _ (small k) _ (few k) _ _ _
     (rw (sym (f .before .before .examine-log .ensures) ∙ f .fault .given .1) (c .unfit .ensures, refl))
 
 pub run-spec : {M : Type 1} → statement M

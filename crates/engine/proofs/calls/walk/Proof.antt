@@ -59,7 +59,7 @@ unfolding walkTold walkLeft
 returns c =
     let f = c .before .before .before .before .before .before in
     let k = f .before .before .before .before in
-    walk-promised _ (bytes k) _ (small k) _ (few k) _ _ _
+    walk-promised _ (bytes k) _ (small k) _ (few k) _ _ _ _
     (rw (sym (f .before .before .examine-log .ensures) ∙ f .shape .given .1, ← rest) (c .before .before .walk .ensures))
 
 same-length-2 : tie.Need-same-length-2
@@ -70,7 +70,7 @@ unfolding walkTold walkLeft
 returns-2 c =
     let f = c .before .before in
     let k = f .before .before .before .before in
-    walk-promised _ (bytes k) _ (small k) _ (few k) _ _ _
+    walk-promised _ (bytes k) _ (small k) _ (few k) _ _ _ _
     (rw (sym (f .before .before .examine-log .ensures) ∙ f .fault .given .1) (c .unfit .ensures, refl))
 
 pub walk-spec : {M : Type 1} → statement M

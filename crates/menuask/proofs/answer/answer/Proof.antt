@@ -19,19 +19,19 @@ check-state-requires : tie.Need-check-state-requires
 check-state-requires c κs = search needs
 
 cast-event : tie.Need-cast-event
-cast-event c = let a = c .before .before .before .before .before .before .before in omega (arith, event-bytes (a .args .kind) (a .args .first) (a .args .second) (a .pre .1) (c .before .before .match .keys4))
+cast-event c = let a = c .before .before .before .before .before .before .before in omega (arith, event-bytes (a .args .kind) (a .args .first) (a .args .second) (a .args .started) (a .pre .1) (c .before .before .match .keys4))
 
 cast-event-2 : tie.Need-cast-event-2
-cast-event-2 c = let a = c .before .before .before .before .before .before .before in omega (arith, event-bytes (a .args .kind) (a .args .first) (a .args .second) (a .pre .1) (c .before .before .match .keys4))
+cast-event-2 c = let a = c .before .before .before .before .before .before .before in omega (arith, event-bytes (a .args .kind) (a .args .first) (a .args .second) (a .args .started) (a .pre .1) (c .before .before .match .keys4))
 
 event-requires : tie.Need-event-requires
 event-requires c κs = search needs
 
 cast-back : tie.Need-cast-back
-cast-back c = let a = c .before .before .before .before .before .before .before in omega (arith, back-bytes (a .args .kind) (a .args .first) (a .args .second) (a .pre .1) (c .before .before .match .keys5))
+cast-back c = let a = c .before .before .before .before .before .before .before in omega (arith, back-bytes (a .args .kind) (a .args .first) (a .args .second) (a .args .started) (a .pre .1) (c .before .before .match .keys5))
 
 cast-back-2 : tie.Need-cast-back-2
-cast-back-2 c = let a = c .before .before .before .before .before .before .before in omega (arith, back-bytes (a .args .kind) (a .args .first) (a .args .second) (a .pre .1) (c .before .before .match .keys5))
+cast-back-2 c = let a = c .before .before .before .before .before .before .before in omega (arith, back-bytes (a .args .kind) (a .args .first) (a .args .second) (a .args .started) (a .pre .1) (c .before .before .match .keys5))
 
 back-requires : tie.Need-back-requires
 back-requires c κs = search needs
@@ -173,7 +173,7 @@ returns-11 c =
     let r = c .before .before .before .before .before .before .before .before .before .before .match .rest in
     let line = c .before .before .before .before .before .before .page .ensures in
     let k = a .args .kind in
-    let (least, most) = known k (a .args .first) (a .args .second) (a .pre .1) in
+    let (least, most) = known k (a .args .first) (a .args .second) (a .args .started) (a .pre .1) in
     let above : 10 + 1 ≤ k =
     past 10 k (past 9 k (past 8 k (past 7 k (past 6 k (past 5 k (past 4 k (past 3 k (past 2 k (past 1 k least (r .0 .0 .0 .0 .0 .0 .0 .0 .0 .1)) (r .0 .0 .0 .0 .0 .0 .0 .0 .1)) (r .0 .0 .0 .0 .0 .0 .0 .1)) (r .0 .0 .0 .0 .0 .0 .1)) (r .0 .0 .0 .0 .0 .1)) (r .0 .0 .0 .0 .1)) (r .0 .0 .0 .1)) (r .0 .0 .1)) (r .0 .1)) (r .1) in
     let eleven : k ≡ 11 = omega (arith, above, most) in

@@ -6,22 +6,25 @@ use borrow.Author.Tests.{le-leb, lt-leb}
 use Rattle.menuask.proofs.request.asks.Statement.{statement}
 use Rattle.menuask.proofs.request.asks.Tie as tie
 
+returns : tie.Need-returns
+returns c = rw (lt-leb _ _ (c .if1 .taken)) refl
+
 within-requires : tie.Need-within-requires
 within-requires c κs = search needs
 
-returns : tie.Need-returns
-returns c = rw (sym (c .before .before .within .ensures) ∙ c .before .if1 .taken, lt-leb _ _ (c .if2 .taken)) refl
-
 returns-2 : tie.Need-returns-2
-returns-2 c = rw (sym (c .before .before .within .ensures) ∙ c .before .if1 .taken, le-leb _ _ (c .if2 .left)) refl
+returns-2 c = rw (le-leb _ _ (c .before .before .before .if1 .left), sym (c .before .before .within .ensures) ∙ c .before .if2 .taken, lt-leb _ _ (c .if3 .taken)) refl
+
+returns-3 : tie.Need-returns-3
+returns-3 c = rw (le-leb _ _ (c .before .before .before .if1 .left), sym (c .before .before .within .ensures) ∙ c .before .if2 .taken, le-leb _ _ (c .if3 .left)) refl
 
 within-requires-2 : tie.Need-within-requires-2
 within-requires-2 c κs = search needs
 
-returns-3 : tie.Need-returns-3
-returns-3 c =
+returns-4 : tie.Need-returns-4
+returns-4 c =
     let one = c .before in
-    rw (sym (one .before .within .ensures) ∙ one .if1 .left, c .within2 .ensures) refl
+    rw (le-leb _ _ (one .before .before .if1 .left), sym (one .before .within .ensures) ∙ one .if2 .left, c .within2 .ensures) refl
 
 pub asks-spec : {M : Type 1} → statement M
-asks-spec = tie.close (tie.spec within-requires returns returns-2 within-requires-2 returns-3)
+asks-spec = tie.close (tie.spec returns within-requires returns-2 returns-3 within-requires-2 returns-4)

@@ -17,10 +17,15 @@ within-requires c κs = search needs
 numbers-requires : tie.Need-numbers-requires
 numbers-requires c κs = search needs
 
+takes-fact-requires : tie.Need-takes-fact-requires
+takes-fact-requires c κs = search needs
+
 returns : tie.Need-returns
-returns c = rw (c .before .before .before .within-or-page .ensures, c .before .before .within-or-page2 .ensures, c .before .within .ensures, c .numbers .ensures) refl
+returns c =
+    let three = c .before .before in
+    rw (three .before .before .within-or-page .ensures, three .before .within-or-page2 .ensures, three .within .ensures, c .before .numbers .ensures, c .takes-fact .ensures) refl
 
 pub parts-of-spec : {M : Type 1} → statement M
 parts-of-spec =
     tie.close
-    (tie.spec within-or-page-requires within-or-page-requires-2 within-requires numbers-requires returns)
+    (tie.spec within-or-page-requires within-or-page-requires-2 within-requires numbers-requires takes-fact-requires returns)

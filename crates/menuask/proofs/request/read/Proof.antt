@@ -25,6 +25,9 @@ number-requires c κs = search needs
 number-requires-2 : tie.Need-number-requires-2
 number-requires-2 c κs = search needs
 
+number-requires-3 : tie.Need-number-requires-3
+number-requires-3 c κs = search needs
+
 asks-requires : tie.Need-asks-requires
 asks-requires c κs = search needs
 
@@ -39,9 +42,9 @@ same-length-3 c = search needs
 
 returns : tie.Need-returns
 returns c =
-    let one = c .before .before .before .before .before .before .before .before .before .before .before .before .before .before .before .before .slice in
-    let two = c .before .before .before .before .before .before .before .before .before .before .before .before .slice2 in
-    let three = c .before .before .before .before .before .before .before .before .slice3 in
+    let one = c .before .before .before .before .before .before .before .before .before .before .before .before .before .before .before .before .before .slice in
+    let two = c .before .before .before .before .before .before .before .before .before .before .before .before .before .slice2 in
+    let three = c .before .before .before .before .before .before .before .before .before .slice3 in
     (one .ensures, (two .ensures, (three .ensures, λ fine. sym (c .asks .ensures) ∙ fine)))
 
 same-length-4 : tie.Need-same-length-4
@@ -55,9 +58,9 @@ same-length-6 c = search needs
 
 returns-2 : tie.Need-returns-2
 returns-2 c =
-    let one = c .before .before .before .before .before .before .before .before .before .before .before .before .before .before .before .slice in
-    let two = c .before .before .before .before .before .before .before .before .before .before .before .slice2 in
-    let three = c .before .before .before .before .before .before .before .slice3 in
+    let one = c .before .before .before .before .before .before .before .before .before .before .before .before .before .before .before .before .slice in
+    let two = c .before .before .before .before .before .before .before .before .before .before .before .before .slice2 in
+    let three = c .before .before .before .before .before .before .before .before .slice3 in
     (one .ensures, (two .ensures, (three .ensures, λ fine. let z : _≡_ {A = ℕ} 0 1 = cc in absurd (omega arith))))
 
 pub read-spec : {M : Type 1} → statement M
@@ -70,6 +73,7 @@ read-spec =
     slice-requires-3
     number-requires
     number-requires-2
+    number-requires-3
     asks-requires
     same-length
     same-length-2

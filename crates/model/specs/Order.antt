@@ -1,0 +1,62 @@
+-- The order of a step, as Section 2.2 of document 004 has it: what the rules of single events (`MayEnd`, `NoOldEndOwed`) come to for all
+-- events between two ticks.
+-- Assumes nothing.
+use mathlib.Core.Path.{_≡_}
+use mathlib.Core.Bool.{Bool, true}
+use mathlib.Core.List.{List, [], _∷_, _++_}
+use Prim.Native.Nat.{ℕ, _+_, _<_, _≤_}
+use Rattle.model.specs.declared.event.Event.{Event}
+use Rattle.model.specs.declared.event.Event.the-variants as event
+use Rattle.model.specs.Tab.{one}
+use Rattle.model.specs.Net.{Net, State, count}
+use Rattle.model.specs.Moves.{NoOldEndOwed}
+use Rattle.model.specs.Run.{startedAfter, Leads}
+
+abbrev pub IsEnd : Event → Type 0
+IsEnd event.Tick = ⊥
+IsEnd (event.Start t) = ⊥
+IsEnd (event.End t age) = Unit {0}
+IsEnd event.Malformed = ⊥
+
+abbrev pub IsTick : Event → Type 0
+IsTick event.Tick = Unit {0}
+IsTick (event.Start t) = ⊥
+IsTick (event.End t age) = ⊥
+IsTick event.Malformed = ⊥
+
+-- the event ends a firing of age 1 or more
+abbrev pub IsOldEnd : Event → Type 0
+IsOldEnd event.Tick = ⊥
+IsOldEnd (event.Start t) = ⊥
+IsOldEnd (event.End t age) = 1 ≤ age .0
+IsOldEnd event.Malformed = ⊥
+
+-- A holds of each event
+unfoldable pub Each : (Event → Type 0) → List Event → Type 0
+Each A [] = Unit {0}
+Each A (e ∷ es) = A e × Each A es
+
+-- how many of the events end a firing of t at age j
+unfoldable pub endings : ℕ → ℕ → List Event → ℕ
+endings t j [] = 0
+endings t j (event.Tick ∷ es) = endings t j es
+endings t j (event.Start u ∷ es) = endings t j es
+endings t j (event.End u age ∷ es) = one u (age .0) t j + endings t j es
+endings t j (event.Malformed ∷ es) = endings t j es
+
+-- every end of age 1 or more that is owed in S is among the events, and no other of its transition at its lfd
+abbrev pub EndsAllOld : Net → State → List Event → Type 0
+EndsAllOld N S es = (t : ℕ) → t < N .transitions → 1 ≤ N .lfd t → endings t (N .lfd t) es ≡ count S t (N .lfd t)
+
+-- A step opens with ends alone. Where a start follows them, or the tick that closes the step, all ends of age 1 or more that were owed at
+-- its opening are among them; and behind the start, up to that tick, only firings of age 0 end.
+pub record StepOrder (N : Net) : Type 0 where
+  pub before-a-start : (started : Bool) (S S′ : State) (opening rest : List Event) (t : ℕ) → Each IsEnd opening
+      → Leads N started S (opening ++ (event.Start t ∷ rest)) S′ → EndsAllOld N S opening
+  pub before-a-tick : (started : Bool) (S S′ : State) (opening rest : List Event) → Each IsEnd opening
+      → Leads N started S (opening ++ (event.Tick ∷ rest)) S′ → EndsAllOld N S opening
+  pub behind-a-start : (started : Bool) (S S′ : State) (earlier rest later : List Event) (t : ℕ) → Each (λ e. ¬ IsTick e) rest
+      → Leads N started S (earlier ++ (event.Start t ∷ (rest ++ later))) S′ → Each (λ e. ¬ IsOldEnd e) rest
+  -- so wherever a start has happened in the step, none is owed
+  pub settled : (started : Bool) (S S′ : State) (es : List Event) → (started ≡ true → NoOldEndOwed N S)
+      → Leads N started S es S′ → startedAfter started es ≡ true → NoOldEndOwed N S′
