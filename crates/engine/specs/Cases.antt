@@ -209,6 +209,10 @@ pub record Further : Type 0 where
       ≡ saysWalk 0 1 1 0
   pub given-in-front : walkTold rowNet (rowStateWith (marks 0x00 0x00 0x00 0x01 0x00 0x00) noCounts noCounts) (log 0x07 (0x41 ∷ 0x01 ∷ [])) 1 true
       ≡ saysWalk 28 0 0 0
+  -- neither 1, 1 nor 0, 1 in front is a start or a tick; 64, 0 is a start, of a transition that the net need not have
+  pub kept-in-front : (walkTold rowNet (rowStateWith (marks 0x00 0x00 0x00 0x01 0x00 0x00) noCounts noCounts) (log 0x09 (0x01 ∷ 0x01 ∷ 0x41 ∷ 0x01 ∷ [])) 1 false ≡ saysWalk 0 1 1 0)
+      × (walkTold rowNet (rowStateWith (marks 0x00 0x00 0x00 0x01 0x00 0x00) noCounts noCounts) (log 0x09 (0x00 ∷ 0x01 ∷ 0x41 ∷ 0x01 ∷ [])) 1 true ≡ saysWalk 28 1 0 0)
+  pub unknown-in-front : walkTold rowNet (rowStateWith (marks 0x00 0x00 0x00 0x01 0x00 0x00) noCounts noCounts) (log 0x09 (0x40 ∷ 0x00 ∷ 0x41 ∷ 0x01 ∷ [])) 1 false ≡ saysWalk 28 1 0 0
   -- a run that is refused by 10 tells no start, whatever was given
   pub no-fact : runTold rowNet rowState newLog true ≡ saysRun 10 0 0 0 noPlace false
   -- a state with a count above its transition's lfd

@@ -68,7 +68,7 @@ pub fn initial(net: &[u8], state: &mut [u8]) -> Verdict
     }
 }
 
-// Does one event, given by its two bytes, where a start has happened before it in its step, or not: 1 to 6, 8, 9, 11 to 20, 28, 29.
+// Does one event, given by its two bytes. `started`: a start has happened before it, in the same step. It tells 1 to 6, 8, 9, 11 to 20, 28, 29.
 pub fn event(net: &[u8], state: &mut [u8], first: u8, second: u8, started: bool) -> EventTold
     ensures { λ r. ⌜ r ≡ eventTold (now (net .entry)) (now (state .entry)) first second started ⌝ }
     ensures { λ _. ⌜ now (state .exit) ≡ eventLeft (now (net .entry)) (now (state .entry)) first second started ⌝ }
@@ -87,7 +87,7 @@ pub fn event(net: &[u8], state: &mut [u8], first: u8, second: u8, started: bool)
     }
 }
 
-// Takes one event back, where a start had happened before it in its step, or not: 1 to 6, 8, 9, 11, 12, 15, 18, 20, 21, 24 to 29.
+// Takes one event back. `started`: a start had happened before it, in the same step. It tells 1 to 6, 8, 9, 11, 12, 15, 18, 20, 21, 24 to 29.
 pub fn back(net: &[u8], state: &mut [u8], first: u8, second: u8, started: bool) -> Verdict
     ensures { λ r. ⌜ r ≡ backTold (now (net .entry)) (now (state .entry)) first second started ⌝ }
     ensures { λ _. ⌜ now (state .exit) ≡ backLeft (now (net .entry)) (now (state .entry)) first second started ⌝ }
@@ -141,7 +141,7 @@ pub fn owed(net: &[u8], state: &[u8]) -> OwedTold
     }
 }
 
-// Runs a log, where a start has happened before its first event in its step, or not: 1 to 6, 8 to 20, 28, 29. The events follow the fifth byte
+// Runs a log. `started`: a start has happened before its first event, in the same step. It tells 1 to 6, 8 to 20, 28, 29. The events follow the fifth byte
 // of the log.
 pub fn run(net: &[u8], state: &mut [u8], log: &[u8], started: bool) -> RunTold
     ensures { λ r. ⌜ r ≡ runTold (now (net .entry)) (now (state .entry)) (now (log .entry)) started ⌝ }
@@ -154,7 +154,7 @@ pub fn run(net: &[u8], state: &mut [u8], log: &[u8], started: bool) -> RunTold
     }
 }
 
-// Walks the last n events of a log back, where a start had happened before the first of them all in its step, or not: 1 to 6, 8 to 12, 15, 18,
+// Walks the last n events of a log back. `started`: a start had happened before the log's first event, in the same step. It tells 1 to 6, 8 to 12, 15, 18,
 // 20 to 22, 24 to 29.
 pub fn walk(net: &[u8], state: &mut [u8], log: &[u8], n: usize, started: bool) -> WalkTold
     ensures { λ r. ⌜ r ≡ walkTold (now (net .entry)) (now (state .entry)) (now (log .entry)) n started ⌝ }

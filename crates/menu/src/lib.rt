@@ -45,7 +45,7 @@ pub extern "C" fn menu_check_state(net: &[u8], state: &[u8], answer: &mut [u64; 
     *answer = [told.number as u64, told.index as u64];
 }
 
-// Does one event, given by its two bytes, where a start has happened before it in its step, or not: 1 to 6, 8, 9, 11 to 20, 28, 29.
+// Does one event, given by its two bytes. `started`: a start has happened before it, in the same step. It tells 1 to 6, 8, 9, 11 to 20, 28, 29.
 #[no_mangle]
 pub extern "C" fn menu_event(
     net: &[u8],
@@ -69,7 +69,7 @@ pub extern "C" fn menu_event(
     ];
 }
 
-// Takes one event back, where a start had happened before it in its step, or not: 1 to 6, 8, 9, 11, 12, 15, 18, 20, 21, 24 to 29.
+// Takes one event back. `started`: a start had happened before it, in the same step. It tells 1 to 6, 8, 9, 11, 12, 15, 18, 20, 21, 24 to 29.
 #[no_mangle]
 pub extern "C" fn menu_back(
     net: &[u8],
@@ -119,7 +119,7 @@ pub extern "C" fn menu_owed(net: &[u8], state: &[u8], answer: &mut [u64; 9])
     ];
 }
 
-// Runs a log, where a start has happened before its first event in its step, or not: 1 to 6, 8 to 20, 28, 29.
+// Runs a log. `started`: a start has happened before its first event, in the same step. It tells 1 to 6, 8 to 20, 28, 29.
 #[no_mangle]
 pub extern "C" fn menu_run(
     net: &[u8],
@@ -145,7 +145,7 @@ pub extern "C" fn menu_run(
     ];
 }
 
-// Walks the last n events of a log back, where a start had happened before the first of them all in its step, or not: 1 to 6, 8 to 12, 15, 18,
+// Walks the last n events of a log back. `started`: a start had happened before the log's first event, in the same step. It tells 1 to 6, 8 to 12, 15, 18,
 // 20 to 22, 24 to 29.
 #[no_mangle]
 pub extern "C" fn menu_walk(

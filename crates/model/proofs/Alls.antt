@@ -1,8 +1,8 @@
 -- Laws for code that computes the model's tests. A loop that tests each number below n, and ends at the first that fails, keeps
 -- that the test passed at all numbers so far.
 -- Assumes nothing.
-use mathlib.Core.Path.{_≡_, refl, sym, _∙_}
-use mathlib.Core.Bool.{Bool, true, false, not}
+use mathlib.Core.Path.{_≡_, refl, sym, ap, _∙_}
+use mathlib.Core.Bool.{Bool, true, false, cond, not}
 use Prim.Native.Nat.{ℕ, _+_, _<_, _≤_}
 use native.Mathlib.Numerals.{add-one}
 use native.Mathlib.Omega.{arith}
@@ -47,3 +47,7 @@ holds {b = false} t e = let z : _≡_ {A = ℕ} 0 1 = cc in absurd (omega arith)
 pub lacks : {b : Bool} {A : Type 0} → Tells b A → b ≡ false → ¬ A
 lacks {b = true} t e = let z : _≡_ {A = ℕ} 0 1 = cc in absurd (omega arith)
 lacks {b = false} t e = t .complete
+
+-- where something is not known yet, whatever would follow from it does
+pub not-yet : {A : Type 0} → false ≡ true → A
+not-yet e = let z : _≡_ {A = ℕ} 1 0 = ap (λ (b : Bool). cond b 0 1) e in absurd (omega arith)

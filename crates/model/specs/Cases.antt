@@ -266,7 +266,7 @@ furtherCases =
     ∷ runs heavy opening (laden 3 0 0 1 0) (start 0 ∷ end 0 0 ∷ []) (tells 0 2 2 0 begun (laden 1 3 0 1 0)) 3
     ∷ does heavy begun (laden 0 0 0 1 0) (end 0 1) (answers 28 (laden 0 0 0 1 0))
     ∷ does heavy begun (laden 0 0 1 0 0) (end 0 0) (answers 0 (laden 0 3 0 0 0))
-    -- a tick behind the start opens a step; an end does not set the fact, nor do two bytes that are no event
+    -- a tick behind the start opens a step; an end does not set the fact; a refused event leaves it
     ∷ runs heavy begun (laden 0 0 0 1 0) (tick ∷ end 0 2 ∷ []) (tells 0 2 2 1 opening (laden 0 3 0 0 0)) 4
     ∷ runs heavy opening (laden 0 0 1 1 0) (end 0 0 ∷ end 0 1 ∷ []) (tells 0 2 2 0 opening (laden 0 6 0 0 0)) 4
     ∷ runs heavy begun (laden 0 0 0 1 0) (event.Malformed ∷ []) (tells 11 0 0 0 begun (laden 0 0 0 1 0)) 3
@@ -282,14 +282,19 @@ furtherCases =
     ∷ undoes heavy opening (laden 0 0 1 0 1) (start 0) (undone 29 (laden 0 0 1 0 1))
     ∷ undoes heavy opening (laden 65535 0 1 0 1) (start 0) (undone 25 (laden 65535 0 1 0 1))
     ∷ undoes heavy opening (laden 0 0 0 0 1) (start 0) (undone 24 (laden 0 0 0 0 1))
-    -- walked back: the fact before an event is set by a start that is not walked, cleared by a tick that is not, and else the one given
+    -- walked back: the fact before an event is set by a start that is not walked, also one of no transition of the net, cleared by a tick that is
+    -- not, kept by two bytes that are no event, and else the one given
     ∷ walks heavy opening (laden 0 3 0 0 0) (start 0 ∷ end 0 1 ∷ []) 1 (walked 28 1 0 0 (laden 0 3 0 0 0))
+    ∷ walks heavy opening (laden 0 3 0 0 0) (start 63 ∷ end 0 1 ∷ []) 1 (walked 28 1 0 0 (laden 0 3 0 0 0))
+    ∷ walks heavy opening (laden 0 3 0 0 0) (event.Malformed ∷ end 0 1 ∷ []) 1 (walked 0 1 1 0 (laden 0 0 0 1 0))
+    ∷ walks heavy begun (laden 0 3 0 0 0) (event.Malformed ∷ end 0 1 ∷ []) 1 (walked 28 1 0 0 (laden 0 3 0 0 0))
     ∷ walks heavy begun (laden 0 3 0 0 0) (tick ∷ end 0 1 ∷ []) 1 (walked 0 1 1 0 (laden 0 0 0 1 0))
     ∷ walks heavy begun (laden 0 3 0 0 0) (end 0 1 ∷ []) 1 (walked 28 0 0 0 (laden 0 3 0 0 0))
     ∷ walks heavy begun (laden 0 6 0 0 0) (end 0 0 ∷ end 0 1 ∷ []) 2 (walked 28 1 0 0 (laden 0 6 0 0 0))
-    -- walks: over all of a log, over its last two events, over none, over more than it has; one that is refused at once, and
+    -- walks: over all of a log, over its last event (K9) and its last two, over none, over more than it has; one that is refused at once, and
     -- one that is refused on its way
     ∷ walks childrensRow opening filled log 5 (walked 0 0 5 1 (state (marks 1 0 0) none none))
+    ∷ walks childrensRow opening filled log 1 (walked 0 4 1 0 (state (marks 0 0 0) none (ages 1 0 0 0)))
     ∷ walks childrensRow opening filled log 2 (walked 0 3 2 0 (state (marks 0 1 0) none none))
     ∷ walks childrensRow opening filled log 0 (walked 0 5 0 0 filled)
     ∷ walks childrensRow opening filled log 6 (walked 22 0 0 0 filled)

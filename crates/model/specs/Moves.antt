@@ -67,6 +67,7 @@ NoneFresh N S = (t : ℕ) → t < N .transitions → count S t 0 ≡ 0
 -- Iteratedstep". "An Endstep at state S contains all endfire events which must occur at S and an arbitrary multiset of endfire
 -- events which may occur at S." "An Iteratedstep is an alternating sequence of multisets of startfire events (not necessarily
 -- maximal) and multisets of endfire events with zero duration (containing all must endfire ones)."
+-- Of an Iteratedstep W5 asks that its ends have age 0, and no order; that those which must occur do, the tick asks.
 
 -- whether a start has happened in the step, after an event
 abbrev pub startedBy : Bool → Event → Bool
@@ -84,7 +85,7 @@ MayEnd true j = j ≡ 0
 abbrev pub NoOldEndOwed : Net → State → Type 0
 NoOldEndOwed N S = (t : ℕ) → t < N .transitions → 1 ≤ N .lfd t → count S t (N .lfd t) ≡ 0
 
--- Definition 5.1
+-- Definition 5.1, and the order of a step: no end of age 1 or more is owed
 pub record Starts (N : Net) (S : State) (t : ℕ) (S′ : State) : Type 0 where
   pub known : t < N .transitions
   pub enabled : Enabled N S t 1
@@ -94,7 +95,7 @@ pub record Starts (N : Net) (S : State) (t : ℕ) (S′ : State) : Type 0 where
   pub counted : (u k : ℕ) → u < N .transitions → k < width N → count S′ u k ≡ count S u k + one t 0 u k
   pub shaped : Shaped N S′
 
--- Definition 5.2
+-- Definition 5.2, and the order of a step: behind a start only a firing of age 0 ends
 pub record Ends (N : Net) (started : Bool) (S : State) (t j : ℕ) (S′ : State) : Type 0 where
   pub known : t < N .transitions
   pub timely : Timely N t j

@@ -45,18 +45,22 @@ endings t j (event.End u age ∷ es) = one u (age .0) t j + endings t j es
 endings t j (event.Malformed ∷ es) = endings t j es
 
 -- every end of age 1 or more that is owed in S is among the events, and no other of its transition at its lfd
-abbrev pub EndsAllOld : Net → State → List Event → Type 0
-EndsAllOld N S es = (t : ℕ) → t < N .transitions → 1 ≤ N .lfd t → endings t (N .lfd t) es ≡ count S t (N .lfd t)
+abbrev pub EndsAllOwed : Net → State → List Event → Type 0
+EndsAllOwed N S es = (t : ℕ) → t < N .transitions → 1 ≤ N .lfd t → endings t (N .lfd t) es ≡ count S t (N .lfd t)
 
--- A step opens with ends alone. Where a start follows them, or the tick that closes the step, all ends of age 1 or more that were owed at
--- its opening are among them; and behind the start, up to that tick, only firings of age 0 end.
+-- what stands where the earlier events have led from S: a step opens there, and its ends are all those owed
+abbrev pub OpensWith : Net → Bool → State → List Event → List Event → Type 0
+OpensWith N started S earlier opening = (S₁ : State) × Leads N started S earlier S₁ × EndsAllOwed N S₁ opening
+
+-- A step opens with ends alone, the paper's Endstep. Where a start follows them, or the tick that closes the step, all ends of age 1 or more that
+-- were owed at its opening are among them. In what is behind a start, the Iteratedstep, only firings of age 0 end, up to that tick.
 pub record StepOrder (N : Net) : Type 0 where
-  pub before-a-start : (started : Bool) (S S′ : State) (opening rest : List Event) (t : ℕ) → Each IsEnd opening
-      → Leads N started S (opening ++ (event.Start t ∷ rest)) S′ → EndsAllOld N S opening
-  pub before-a-tick : (started : Bool) (S S′ : State) (opening rest : List Event) → Each IsEnd opening
-      → Leads N started S (opening ++ (event.Tick ∷ rest)) S′ → EndsAllOld N S opening
-  pub behind-a-start : (started : Bool) (S S′ : State) (earlier rest later : List Event) (t : ℕ) → Each (λ e. ¬ IsTick e) rest
-      → Leads N started S (earlier ++ (event.Start t ∷ (rest ++ later))) S′ → Each (λ e. ¬ IsOldEnd e) rest
+  pub before-a-start : (started : Bool) (S S′ : State) (earlier opening later : List Event) (t : ℕ) → Each IsEnd opening
+      → Leads N started S (earlier ++ (opening ++ (event.Start t ∷ later))) S′ → OpensWith N started S earlier opening
+  pub before-a-tick : (started : Bool) (S S′ : State) (earlier opening later : List Event) → Each IsEnd opening
+      → Leads N started S (earlier ++ (opening ++ (event.Tick ∷ later))) S′ → OpensWith N started S earlier opening
+  pub behind-a-start : (started : Bool) (S S′ : State) (earlier rest later : List Event) → startedAfter started earlier ≡ true
+      → Each (λ e. ¬ IsTick e) rest → Leads N started S (earlier ++ (rest ++ later)) S′ → Each (λ e. ¬ IsOldEnd e) rest
   -- so wherever a start has happened in the step, none is owed
-  pub settled : (started : Bool) (S S′ : State) (es : List Event) → (started ≡ true → NoOldEndOwed N S)
+  pub none-owed-behind : (started : Bool) (S S′ : State) (es : List Event) → (started ≡ true → NoOldEndOwed N S)
       → Leads N started S es S′ → startedAfter started es ≡ true → NoOldEndOwed N S′

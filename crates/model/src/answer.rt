@@ -50,7 +50,7 @@ pub enum Refusal {
     Malformed,
     // 12: the net has no such transition.
     NoSuchTransition,
-    // 13, 29, 14: of a start. 13 tells the lowest place that is short; 29, that an end of age 1 or more is owed, and comes first.
+    // 13, 29, 14: of a start. 13 tells the lowest place that is short; 29, that an end of age 1 or more is owed, which has to happen before it.
     NotEnabled(Short),
     OldEndOwed,
     CountFull,

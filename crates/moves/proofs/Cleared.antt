@@ -1,9 +1,9 @@
--- Where a start has been done, or taken back, no end of age 1 or more is owed, and ends of age 0 leave it so.
+-- Where a start has been done, or a start or a tick taken back, no end of age 1 or more is owed, and ends of age 0 leave it so.
 -- Assumes nothing.
-use mathlib.Core.Path.{_≡_, refl, ap}
-use mathlib.Core.Bool.{Bool, true, false, cond, _&&_}
+use mathlib.Core.Path.{_≡_, refl}
+use mathlib.Core.Bool.{Bool, true, false, _&&_}
 use mathlib.Core.List.{List}
-use Prim.Native.Nat.{ℕ, suc, _≤_}
+use Prim.Native.Nat.{ℕ}
 use native.Mathlib.Omega.{arith}
 use lib.Dec.{eqb}
 use borrow.Author.Tests.{eqb-true}
@@ -12,12 +12,12 @@ use Rattle.model.specs.declared.event.Event.the-variants as event
 use Rattle.model.specs.declared.net.Net.{Net as Shape}
 use Rattle.model.specs.declared.answer.Answer.the-variants as answer
 use Rattle.model.specs.Net.{Net, State, Lawful}
-use Rattle.model.specs.Moves.{startedBy, NoOldEndOwed, Ends, Moves}
+use Rattle.model.specs.Moves.{startedBy, NoOldEndOwed, Moves}
 use Rattle.model.specs.Rules.{answerOf, stateAfter, no-old-end-owed?}
 use Rattle.model.proofs.Tab.{one-off}
 use Rattle.model.proofs.Shape.{lfd-fits}
 use Rattle.model.proofs.Tests.{no-old-end-owed-tells, told-true}
-use Rattle.model.proofs.Alls.{holds}
+use Rattle.model.proofs.Alls.{holds, not-yet}
 use Rattle.model.proofs.Forward.{apply-exact}
 use Rattle.model.proofs.Back.{back-exact}
 use Rattle.model.proofs.Order.{settles}
@@ -29,18 +29,15 @@ use Rattle.moves.specs.After.{applied, takenBack, after, clearBefore}
 use Rattle.moves.proofs.Undone.{after-stored, back-after-stored}
 use Rattle.moves.proofs.Calm.{done-by}
 
-no-false : {A : Type 0} → false ≡ true → A
-no-false e = let z : _≡_ {A = ℕ} 1 0 = ap (λ (b : Bool). cond b 0 1) e in absurd (omega arith)
-
 both : (a b : Bool) → (a && b) ≡ true → (a ≡ true) × (b ≡ true)
 both true b e = (refl, e)
-both false b e = no-false e
+both false b e = not-yet e
 
 -- IN THE MODEL
 
 module _ (N : Net) (started : Bool) (S S′ : State) (clear : Bool) where
   before-undone : (e : Event) → Moves N started S e S′ → (clear ≡ true → NoOldEndOwed N S′) → clearBefore clear e ≡ true → NoOldEndOwed N S
-  before-undone event.Tick m known is = no-false is
+  before-undone event.Tick m known is = λ t l old. m .no-end-owed t l
   before-undone (event.Start t) m known is = m .no-old-end-owed
   before-undone (event.End t age) m known is = fresh-end (both clear (eqb (age .0) 0) is .0) (eqb-true (age .0) 0 (both clear (eqb (age .0) 0) is .1))
     where

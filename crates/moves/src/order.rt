@@ -1,5 +1,5 @@
 // The order of a step (request W5): its ends of age 1 or more come before its starts. A start asks that no such end is owed (29), and behind
-// a start no firing of age 1 or more ends (28). What is told before these two is asked here; all the rest is in `firing`.
+// a start no firing of age 1 or more ends (28). Where one of the two holds, what is told before it is asked here; all the rest is in `firing`.
 use crate::firing;
 use crate::marking;
 use forms::net;
@@ -52,12 +52,13 @@ impl Step {
     }
 }
 
-// Whether it is known of the state before an event that was taken back that no end of age 1 or more is owed, by whether it was behind it.
+// Whether it is known of the state before an event that was taken back that no end of age 1 or more is owed, by whether it was behind it. Before
+// a start and before a tick none can have been.
 pub fn clear_before(clear: bool, event: Event) -> bool
     ensures { λ r. ⌜ r ≡ clearBefore clear event ⌝ }
 {
     match event {
-        Event::Tick => false,
+        Event::Tick => true,
         Event::Start(_) => true,
         Event::End(_, age) => {
             if age.0 != 0 {

@@ -10,6 +10,7 @@ use borrow.Author.Tests.{eq-eqb, ne-eqb}
 use Rattle.model.specs.declared.answer.Short.{Short}
 use Rattle.model.specs.Answer.{nothingShort}
 use Rattle.model.proofs.Tab.{below-or-past}
+use Rattle.model.proofs.Alls.{not-yet}
 use Rattle.forms.specs.declared.fault.Fault.{Fault}
 use Rattle.forms.specs.Checked.{numberOfFault}
 use Rattle.forms.specs.Places.{logLength}
@@ -26,7 +27,6 @@ use Rattle.runner.specs.declared.call.PageTold.{PageTold}
 use Rattle.runner.specs.Call.{pageTold, stateLeft, logLeft}
 use Rattle.runner.specs.Logged.{roomOf}
 use Rattle.runner.specs.Promised.{PageBuilt, PagePromise}
-use Rattle.runner.proofs.Pages.{opening}
 use Rattle.replay.specs.Replayed.{early?, standingAfter, replayed, replayLeft}
 use Rattle.replay.specs.Lines.{LateShown}
 use Rattle.replay.proofs.Shown.{not-both, fault-early, ran-shown}
@@ -85,13 +85,13 @@ module _ (net state log : List ℕ) (budget : ℕ) (p : PageTold) (state′ log�
         unfolding standingAfter
         as-run e =
             let done = page-built promise z .0 in
-            (rw (done .run-tells false opening, done .run-leaves false opening, owes, nothing) refl, sym (done .run-leaves false opening))
+            (rw (done .run-tells false not-yet, done .run-leaves false not-yet, owes, nothing) refl, sym (done .run-leaves false not-yet))
 
         pub page-told : (tells ≡ builtFrom net state log budget) × ((tells .log ≤ length log′) × LateShown 0 state′) × AsRun net state tells state′ log′
         page-told =
             let done = page-built promise z .0 in (
               rw (← told, eq-eqb (p .number) 0 z, ← left, ← owes, nothing) refl,
-              (log-fits z .1, λ late. rw (← done .run-leaves false opening) (ran-shown net state (take (logLength (p .events)) log′) (ap (λ x. early? (x .number)) (done .run-tells false opening)))),
+              (log-fits z .1, λ late. rw (← done .run-leaves false not-yet) (ran-shown net state (take (logLength (p .events)) log′) (ap (λ x. early? (x .number)) (done .run-tells false not-yet)))),
               as-run,
             )
 

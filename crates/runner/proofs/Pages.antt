@@ -1,7 +1,7 @@
 -- The page that is computed is the one to be written, and no other is.
 -- Assumes nothing.
 use mathlib.Core.Path.{_≡_, refl, sym, ap, subst, _∙_}
-use mathlib.Core.Bool.{Bool, true, false, cond}
+use mathlib.Core.Bool.{Bool, true, false}
 use mathlib.Core.Logic.{_↔_}
 use mathlib.Core.List.{List, [], _∷_, _++_}
 use Prim.Native.Nat.{ℕ, zero, suc, _+_, _-_, _<_, _≤_}
@@ -168,10 +168,6 @@ builds-lead b known Builds.nothing = stay
 builds-lead {N} b known (Builds.more {S} {S₁} {e = e} c m w) =
     let p = permitted b S₁ known c m in
     move p (builds-lead (startedBy b e) (settles N b S S₁ b e p known) w)
-
--- where no start has been made nothing need be known
-pub opening : {A : Type 0} → false ≡ true → A
-opening e = let z : _≡_ {A = ℕ} 1 0 = ap (λ (b : Bool). cond b 0 1) e in absurd (omega arith)
 
 builds-append : {N : Net} {S S₁ S′ : State} {es fs : List Event} → Builds N S es S₁ → Builds N S₁ fs S′ → Builds N S (es ++ fs) S′
 builds-append Builds.nothing w = w

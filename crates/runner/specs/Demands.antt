@@ -37,7 +37,7 @@ pub record PageDemands (N : Net) : Type 0 where
   pub accepted : (S : State) (room budget : ℕ)
       → run N false S (page N S room budget .events) ≡ acceptedRun false (page N S room budget .events) (page N S room budget .state)
   -- and so is one behind a start, where no end of age 1 or more is owed: as it is where a run of the page before told that a start has happened
-  -- (`settled` of the model's StepOrder)
+  -- (`none-owed-behind` of the model's StepOrder)
   pub accepted-behind : (S : State) (room budget : ℕ) → NoOldEndOwed N S
       → run N true S (page N S room budget .events) ≡ acceptedRun true (page N S room budget .events) (page N S room budget .state)
   -- where it stopped at rest, the standing is 4

@@ -5,7 +5,8 @@ ghost use mathlib.Core.Path.{_≡_};
 ghost use Rattle.runs.specs.Runs.{runFault, walkFault};
 
 // Of a run: document 01's number and index, how many events were done, how many of them were ticks, the place that is short, which 13
-// alone tells, and whether a start has happened in the step of the state that is left. The index is the event refused; the transition for 4, 5, 6 and 9; of an accepted run the number of events; and else 0.
+// alone tells, and whether a start has happened in the step of the state that is left, which is false for 1 to 10. The index is the event refused;
+// the transition for 4, 5, 6 and 9; of an accepted run the number of events; and else 0.
 pub struct RunTold {
     pub number: u8,
     pub index: usize,
