@@ -157,7 +157,7 @@ extern "C" {
  * Of an event taken back 11 and 12 are told first; then of a tick 21, 18, 20, of a start 24, 25, 29, of an end 15, 28, 26, 27, in this
  * order. 11, 12 and 15 speak of the event alone, 28 of the event and `started`, the others of the state from which it is taken back. Of
  * an event that 11 and 12 pass, one of those behind them is told exactly where no lawful state leads there by it, `started` being what
- * is given for that state, and says why.
+ * is given, or in a walk found, for that state, and says why.
  */
 enum menu_number {
     MENU_ACCEPTED = 0,

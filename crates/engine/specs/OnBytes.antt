@@ -29,7 +29,8 @@ pub record OnBytes : Type 0 where
   -- demands 2 and 3, of a net and a state that got past the checks
   pub demand-2 : (net b : List ℕ) → Bytes net → Bytes b → Passes (examineState net b) → Demand2 net b
   pub demand-3 : (net b : List ℕ) → Bytes b → Passes (examineState net b) → Demand3 net b
-  -- and so a step of an accepted log, whose events lead from the state given (`permitted` of LogRun), is ordered as Section 2.2 of document 004 has it
+  -- and so a step of an accepted log, whose events lead from the state given (`permitted` of LogRun), is ordered as Section 2.2 of document 004
+  -- has it. This speaks of `Leads` alone, so no call promises it beside LogRun
   pub step-order : (N : Net) → StepOrder N
   -- the initial state, and the steps of a log
   pub initial : (net b : List ℕ) → Bytes net → Passes (examineNet net) → InitialGiven net b (initialTold net b) (initialLeft net b)

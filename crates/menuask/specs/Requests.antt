@@ -21,7 +21,7 @@ within? kind least most = leb least kind && leb kind most
 unfoldable pub within-or-page? : ℕ → ℕ → ℕ → Bool
 within-or-page? kind least most = eqb kind 11 || within? kind least most
 
--- two numbers, the bytes of an event; or one: a transition, a number of events, or of a step
+-- two numbers, the bytes of an event; or one: a transition, a number of events, of a step, or a budget
 abbrev pub numbersOf : ℕ → ℕ
 numbersOf kind = cond (within? kind 4 5) 2 (cond (within? kind 6 6) 1 (cond (within? kind 9 11) 1 0))
 

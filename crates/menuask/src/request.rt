@@ -52,7 +52,8 @@ fn within_or_page(kind: u8, least: u8, most: u8) -> bool
     within(kind, least, most)
 }
 
-// How many numbers a request of this kind has: two for an event, one for a transition, a number of events or a step.
+// How many numbers a request of this kind has before the one that says whether a start has happened: two for an event, one for a transition, a
+// number of events, a step or a budget.
 pub fn numbers(kind: u8) -> usize
     ensures { λ r. ⌜ r ≡ numbersOf kind ⌝ }
 {

@@ -185,6 +185,6 @@ pub cases-hold : (length cases ≡ 12) × AllHold cases
 unfolding cases
 cases-hold = (refl, every-sound cases (both (every holds? cases) (every holds? furtherCases) all-hold .0))
 
-pub further-hold : (length furtherCases ≡ 77) × AllHold furtherCases
+pub further-hold : (length furtherCases ≡ 80) × AllHold furtherCases
 unfolding furtherCases
 further-hold = (refl, every-sound furtherCases (both (every holds? cases) (every holds? furtherCases) all-hold .1))

@@ -261,6 +261,10 @@ furtherCases =
     ∷ runs heavy opening (laden 2 0 0 0 1) (start 0 ∷ tick ∷ []) (tells 29 0 0 0 opening (laden 2 0 0 0 1)) 1
     ∷ runs heavy opening (laden 2 0 0 0 1) (end 0 2 ∷ start 0 ∷ []) (tells 0 2 2 0 begun (laden 0 3 1 0 0)) 3
     ∷ does childrensRow begun (state (marks 1 0 0) none (ages 1 0 0 0)) (start 0) (answers 0 (state (marks 0 0 0) (ages 1 0 0 0) (ages 1 0 0 0)))
+    -- 29 where the owed end is another transition's, and where a start was made before; both taken back
+    ∷ does childrensRow opening (state (marks 0 1 0) (ages 0 0 0 1) none) (start 1) (answers 29 (state (marks 0 1 0) (ages 0 0 0 1) none))
+    ∷ does heavy begun (laden 2 0 0 0 1) (start 0) (answers 29 (laden 2 0 0 0 1))
+    ∷ undoes childrensRow begun (state (marks 0 0 0) (ages 0 0 0 1) (ages 1 0 0 0)) (start 1) (undone 29 (state (marks 0 0 0) (ages 0 0 0 1) (ages 1 0 0 0)))
     -- behind a start an end of age 1: 28, and one of age 0: accepted; the same where the start is given, and not in the log
     ∷ runs heavy opening (laden 3 0 0 1 0) (start 0 ∷ end 0 1 ∷ []) (tells 28 1 1 0 begun (laden 1 0 1 1 0)) 3
     ∷ runs heavy opening (laden 3 0 0 1 0) (start 0 ∷ end 0 0 ∷ []) (tells 0 2 2 0 begun (laden 1 3 0 1 0)) 3

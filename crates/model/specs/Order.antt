@@ -48,12 +48,14 @@ endings t j (event.Malformed ∷ es) = endings t j es
 abbrev pub EndsAllOwed : Net → State → List Event → Type 0
 EndsAllOwed N S es = (t : ℕ) → t < N .transitions → 1 ≤ N .lfd t → endings t (N .lfd t) es ≡ count S t (N .lfd t)
 
--- what stands where the earlier events have led from S: a step opens there, and its ends are all those owed
+-- the earlier events lead from S to a state, and every end of age 1 or more that is owed there is among the opening's. Where the last of the
+-- earlier events is a tick, or there is none, a step opens there
 abbrev pub OpensWith : Net → Bool → State → List Event → List Event → Type 0
 OpensWith N started S earlier opening = (S₁ : State) × Leads N started S earlier S₁ × EndsAllOwed N S₁ opening
 
--- A step opens with ends alone, the paper's Endstep. Where a start follows them, or the tick that closes the step, all ends of age 1 or more that
--- were owed at its opening are among them. In what is behind a start, the Iteratedstep, only firings of age 0 end, up to that tick.
+-- What is permitted in a step before its first start, or before the tick that closes it, are ends alone: the opening, the paper's Endstep. Where the
+-- start follows, or that tick, all ends of age 1 or more that were owed are among them. In what is behind a start, the Iteratedstep, only
+-- firings of age 0 end, up to that tick.
 pub record StepOrder (N : Net) : Type 0 where
   pub before-a-start : (started : Bool) (S S′ : State) (earlier opening later : List Event) (t : ℕ) → Each IsEnd opening
       → Leads N started S (earlier ++ (opening ++ (event.Start t ∷ later))) S′ → OpensWith N started S earlier opening
@@ -61,6 +63,6 @@ pub record StepOrder (N : Net) : Type 0 where
       → Leads N started S (earlier ++ (opening ++ (event.Tick ∷ later))) S′ → OpensWith N started S earlier opening
   pub behind-a-start : (started : Bool) (S S′ : State) (earlier rest later : List Event) → startedAfter started earlier ≡ true
       → Each (λ e. ¬ IsTick e) rest → Leads N started S (earlier ++ (rest ++ later)) S′ → Each (λ e. ¬ IsOldEnd e) rest
-  -- so wherever a start has happened in the step, none is owed
+  -- so wherever a start has happened in the step none is owed, if none is owed in S where the start is given and not among the events
   pub none-owed-behind : (started : Bool) (S S′ : State) (es : List Event) → (started ≡ true → NoOldEndOwed N S)
       → Leads N started S es S′ → startedAfter started es ≡ true → NoOldEndOwed N S′

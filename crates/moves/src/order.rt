@@ -1,5 +1,6 @@
 // The order of a step (request W5): its ends of age 1 or more come before its starts. A start asks that no such end is owed (29), and behind
-// a start no firing of age 1 or more ends (28). Where one of the two holds, what is told before it is asked here; all the rest is in `firing`.
+// a start no firing of age 1 or more ends (28). Where one of the two rules is broken, what is told before its number is asked
+// here; all the rest is in `firing`.
 use crate::firing;
 use crate::marking;
 use forms::net;
