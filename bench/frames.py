@@ -75,9 +75,22 @@ def table_of(function, instruction):
     return int(begins[1], 16) + 4 if begins[1] else 0
 
 
+def parts(register):
+    """The names of a register and of its parts."""
+    stem = register[2:]
+    if stem[0].isdigit():
+        return rf"%r{stem}[dwb]?\b"
+    return rf"%[re]?{stem}\b|%{stem}l\b" if stem[1] != "x" else rf"%[re]?{stem}\b|%{stem[0]}[lh]\b"
+
+
 def by_table(function, code, table, address):
-    """Where a jump by a register goes: the four instructions find a table, read an offset, add the table, and jump."""
-    last = [code[place] for place in sorted(code) if place <= address][-4:]
+    """Where a jump by a register goes: four instructions find a table, read an offset, add the table, and jump. What is moved between the
+    last two, among other registers, has no part in it."""
+    register = code[address].operands.lstrip("*")
+    before = [code[place] for place in sorted(code) if place < address]
+    while before and before[-1].operation.startswith(("mov", "lea")) and not re.search(parts(register), before[-1].operands):
+        before.pop()
+    last = before[-3:] + [code[address]]
     text = " ".join(f"{told.operation} {told.operands.split('#')[0].strip()}" for told in last)
     begin = table_of(function, last[0])
     if begin is None or not re.fullmatch(r"lea 0x0\(%rip\),(%r\w+) movslq \(\1,%r\w+,4\),(%r\w+) add \1,\2 jmp \*\2", text):

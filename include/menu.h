@@ -89,7 +89,7 @@
  * accepted with 0 as well.
  *
  * The functions keep nothing from one call to the next, have no data that is written, use no heap, need no second state and do no
- * input or output. A call takes less than 512 bytes of stack, whatever the net: that is measured, not proved, and docs/C.md tells what
+ * input or output. A call takes at most 512 bytes of stack, whatever the net: that is measured, not proved, and docs/C.md tells what
  * each takes. So threads and signal handlers may call them at any time, each with a state, an answer and, for menu_page, a log of its
  * own.
  */
