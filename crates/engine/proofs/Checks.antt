@@ -72,7 +72,7 @@ initial-given net b bytes (shape, e) =
 
 -- THE CHECKS
 
-fault-number : {C : Type 0} (why : Fault) → numberOfFault why ≡ 0 → C
+pub fault-number : {C : Type 0} (why : Fault) → numberOfFault why ≡ 0 → C
 fault-number fault.NetFrame e = absurd (omega arith)
 fault-number fault.NetSize e = absurd (omega arith)
 fault-number fault.NetLength e = absurd (omega arith)

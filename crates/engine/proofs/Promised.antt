@@ -40,7 +40,7 @@ Adds {A} P x = (r : A) → r ≡ x → (r ≡ x) × P r
 abbrev pub AddsTwo : {A : Type 0} → (A → List ℕ → Type 0) → A → List ℕ → Type 0
 AddsTwo {A} P x y = (r : A) (b′ : List ℕ) → (r ≡ x) × (b′ ≡ y) → (r ≡ x) × ((b′ ≡ y) × P r b′)
 
-adds : {A : Type 0} (P : A → Type 0) (x : A) → P x → Adds P x
+pub adds : {A : Type 0} (P : A → Type 0) (x : A) → P x → Adds P x
 adds P x p r t = (t, rw t p)
 
 adds-two : {A : Type 0} (P : A → List ℕ → Type 0) (x : A) (y : List ℕ) → P x y → AddsTwo P x y
@@ -61,7 +61,7 @@ module _ {refused : Fault → Type 0} {done : Type 0} (net : List ℕ) (bytes : 
       by-cases (examineNet net) (λ why e. (x .net-faults why .0 e, bad why e)) (λ p. ((x .net-passes .0 p, bytes), good p))
 
   module _ (b : List ℕ) (small : Bytes b) where
-    of-state : ((why : Fault) → examineState net b ≡ examined.Unfit why → refused why) → (Passes (examineState net b) → done)
+    pub of-state : ((why : Fault) → examineState net b ≡ examined.Unfit why → refused why) → (Passes (examineState net b) → done)
         → OfState net b refused done
     of-state bad good =
         let x = examines net b [] in

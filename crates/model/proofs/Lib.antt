@@ -1,4 +1,5 @@
 pub mod Tab
+pub mod Sums
 pub mod Lowest
 pub mod Tests
 pub mod Lacking

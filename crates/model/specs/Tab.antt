@@ -1,8 +1,9 @@
--- What a test tells; and lists, tests and bounds made of a function on 0 .. n - 1. Their laws are in proofs/Tab.antt.
+-- What a test tells; and lists, tests, bounds and sums made of a function on 0 .. n - 1. Their laws are in proofs/Tab.antt, those of sums in
+-- proofs/Sums.antt.
 -- Assumes nothing.
 use mathlib.Core.Bool.{Bool, true, _&&_, cond}
 use mathlib.Core.List.{List, [], _∷_}
-use Prim.Native.Nat.{ℕ, zero, suc, max, min}
+use Prim.Native.Nat.{ℕ, zero, suc, _+_, max, min}
 use lib.Dec.{T, eqb}
 
 -- the test b decides A: it passes exactly where A holds
@@ -43,6 +44,11 @@ howMany (suc n) f = cond (f n) (suc (howMany n f)) (howMany n f)
 unfoldable pub lowest : ℕ → ℕ → (ℕ → Bool) → ℕ
 lowest none zero f = none
 lowest none (suc n) f = lowest (cond (f n) n none) n f
+
+-- f 0 + .. + f (n - 1)
+unfoldable pub sum : ℕ → (ℕ → ℕ) → ℕ
+sum zero f = 0
+sum (suc n) f = f n + sum n f
 
 abbrev pub oneIf : Bool → ℕ
 oneIf b = cond b 1 0

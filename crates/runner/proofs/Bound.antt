@@ -9,11 +9,13 @@ use native.Mathlib.Omega.{arith}
 use Rattle.model.specs.declared.event.Event.{Event}
 use Rattle.model.specs.declared.event.Event.the-variants as event
 use Rattle.model.specs.declared.answer.Refusal.{Refusal}
+use Rattle.model.specs.Tab.{sum}
 use Rattle.model.specs.Net.{Net, State, Proper}
 use Rattle.model.specs.Moves.{Starts, Ends, Moves}
 use Rattle.model.specs.Rules.{Outcome, done, refused, apply}
 use Rattle.model.specs.Run.{by}
 use Rattle.model.proofs.Tab.{one-here, one-off}
+use Rattle.model.proofs.Sums.{sum-same, sum-add, sum-at, le-sum}
 use Rattle.model.proofs.Shape.{lfd-fits}
 use Rattle.model.proofs.Forward.{apply-exact}
 use Rattle.model.proofs.Refusals.{apply-refuses}
@@ -22,10 +24,9 @@ use Rattle.runner.specs.declared.stop.Stop.the-variants as stop
 use Rattle.runner.specs.Stop.{numberOfStop, stopFor}
 use Rattle.runner.specs.Choice.{Chooses, Choice, rest, next, Picks, choice}
 use Rattle.runner.specs.Page.{Page, halted, behind, chosen, page}
-use Rattle.runner.specs.Bound.{total, due, owedEnds, tokensAfter, allTokensAfter, bound, NoneInstant, Soon}
+use Rattle.runner.specs.Bound.{due, owedEnds, tokensAfter, allTokensAfter, bound, NoneInstant, Soon}
 use Rattle.runner.proofs.Choice.{choice-picks}
 use Rattle.runner.proofs.Stops.{Met, met}
-use Rattle.runner.proofs.Totals.{total-add, total-same, total-at, le-total}
 
 -- A START
 
@@ -37,22 +38,22 @@ module _ {N : Net} {S S₁ : State} (t : ℕ) (long : NoneInstant N) (m : Starts
 
   start-owed : owedEnds N S ≡ owedEnds N S₁
   unfolding owedEnds
-  start-owed = total-same (N .transitions) (due N S) (due N S₁) start-due
+  start-owed = sum-same (N .transitions) (due N S) (due N S₁) start-due
 
-  start-tokens : allTokensAfter N S ≡ allTokensAfter N S₁ + total (N .places) (N .takes t)
+  start-tokens : allTokensAfter N S ≡ allTokensAfter N S₁ + sum (N .places) (N .takes t)
   unfolding allTokensAfter
-  start-tokens = total-add (N .places) (tokensAfter N S) (tokensAfter N S₁) (N .takes t) at
+  start-tokens = sum-add (N .places) (tokensAfter N S) (tokensAfter N S₁) (N .takes t) at
     where
       at : (p : ℕ) → p < N .places → tokensAfter N S p ≡ tokensAfter N S₁ p + N .takes t p
       at p b =
-          let same : total (N .transitions) (λ u. due N S u * N .gives u p) ≡ total (N .transitions) (λ u. due N S₁ u * N .gives u p) =
-          total-same (N .transitions) _ _ (λ u l. ap (λ n. n * N .gives u p) (start-due u l)) in
+          let same : sum (N .transitions) (λ u. due N S u * N .gives u p) ≡ sum (N .transitions) (λ u. due N S₁ u * N .gives u p) =
+          sum-same (N .transitions) _ _ (λ u l. ap (λ n. n * N .gives u p) (start-due u l)) in
           omega (arith, m .marked p b)
 
   pub start-lowers : Proper N → bound N S₁ < bound N S
   start-lowers proper =
       let (p, b, pos) = proper .preset t (m .known) in
-      omega (arith, start-owed, start-tokens, le-total (N .places) (N .takes t) p b)
+      omega (arith, start-owed, start-tokens, le-sum (N .places) (N .takes t) p b)
 
 -- AN END AT ITS LFD
 
@@ -66,11 +67,11 @@ module _ {N : Net} {S S₁ : State} (t : ℕ) (m : Ends N false S t (N .lfd t) S
 
   end-owed : owedEnds N S ≡ owedEnds N S₁ + 1
   unfolding owedEnds
-  end-owed = total-at (N .transitions) (due N S) (due N S₁) t 1 (m .known) end-due end-others
+  end-owed = sum-at (N .transitions) (due N S) (due N S₁) t 1 (m .known) end-due end-others
 
   end-tokens : allTokensAfter N S ≡ allTokensAfter N S₁
   unfolding allTokensAfter
-  end-tokens = total-same (N .places) (tokensAfter N S) (tokensAfter N S₁) at
+  end-tokens = sum-same (N .places) (tokensAfter N S) (tokensAfter N S₁) at
     where
       more : (p : ℕ) → due N S t * N .gives t p ≡ due N S₁ t * N .gives t p + N .gives t p
       more p =
@@ -79,9 +80,9 @@ module _ {N : Net} {S S₁ : State} (t : ℕ) (m : Ends N false S t (N .lfd t) S
 
       at : (p : ℕ) → p < N .places → tokensAfter N S p ≡ tokensAfter N S₁ p
       at p b =
-          let given : total (N .transitions) (λ u. due N S u * N .gives u p)
-          ≡ total (N .transitions) (λ u. due N S₁ u * N .gives u p) + N .gives t p =
-          total-at (N .transitions) _ _ t (N .gives t p) (m .known) (more p)
+          let given : sum (N .transitions) (λ u. due N S u * N .gives u p)
+          ≡ sum (N .transitions) (λ u. due N S₁ u * N .gives u p) + N .gives t p =
+          sum-at (N .transitions) _ _ t (N .gives t p) (m .known) (more p)
           (λ u l off. ap (λ n. n * N .gives u p) (end-others u l off)) in
           omega (arith, m .marked p b)
 

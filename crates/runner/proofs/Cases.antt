@@ -9,7 +9,7 @@ use native.Mathlib.Omega.{arith}
 use lib.ListN.{length}
 use Rattle.model.specs.declared.event.Event.{Event}
 use Rattle.model.specs.declared.event.Event.the-variants as event
-use Rattle.model.specs.Tab.{tab, all, largest, lowest, one}
+use Rattle.model.specs.Tab.{tab, all, largest, lowest, sum, one}
 use Rattle.model.specs.Net.{State, HasInput, HasOutput, width, tokens, count, build, initialState}
 use Rattle.model.specs.Rules.{done, lackingPlace, enabled?, no-start-owed?, no-end-owed?, nothing-running?, timely?, may-end?, owes-no-old-end?, no-old-end-owed?, has-room?, started, ended, older, ticked, apply}
 use Rattle.model.specs.Run.{ticksIn, eventAt}
@@ -19,7 +19,7 @@ use Rattle.model.proofs.Tab.{below-suc}
 use Rattle.runner.specs.declared.stop.Stop.the-variants as stop
 use Rattle.runner.specs.Choice.{next, choice, endAtLfd}
 use Rattle.runner.specs.Page.{Page, page}
-use Rattle.runner.specs.Bound.{total, owedEnds, allTokensAfter, Soon}
+use Rattle.runner.specs.Bound.{owedEnds, allTokensAfter, Soon}
 use Rattle.runner.specs.Cases.{RowPages, twoOwed, LowestPages, spin, NeverTicks}
 
 pub row-pages : RowPages
@@ -59,7 +59,7 @@ later p is (Soon.ticks k l b q) = not-yet k l (rw is at q)
 later p is (Soon.stops l b f) = let n : length (p .events) ≡ 7 = ap length is in omega arith
 
 pub lowest-pages : LowestPages
-unfolding tab all largest lowest one width tokens count build initialState lackingPlace enabled? no-start-owed? no-end-owed? nothing-running? timely? may-end? owes-no-old-end? no-old-end-owed? has-room? started ended older ticked apply owes-start? owes-end? slowMiddle choice page total owedEnds allTokensAfter
+unfolding tab all largest lowest one width tokens count build initialState lackingPlace enabled? no-start-owed? no-end-owed? nothing-running? timely? may-end? owes-no-old-end? no-old-end-owed? has-room? started ended older ticked apply owes-start? owes-end? slowMiddle choice page sum owedEnds allTokensAfter
 lowest-pages = record {
   lowest-start = refl;
   lowest-end = refl;
@@ -135,7 +135,7 @@ single : (A : ℕ → Type 0) → A 0 → (i : ℕ) → i < 1 → A i
 single A a = below-suc A 0 a (λ i h. absurd (not-suc-le-zero h))
 
 pub never-ticks : NeverTicks
-unfolding spin tab largest width tokens count build initialState total owedEnds allTokensAfter
+unfolding spin tab largest width tokens count build initialState sum owedEnds allTokensAfter
 never-ticks = record {
   accepted = record {
     proper = record {

@@ -2,7 +2,6 @@ pub mod Choice
 pub mod Clearing
 pub mod Stops
 pub mod Pages
-pub mod Totals
 pub mod Bound
 pub mod Cases
 pub mod Words

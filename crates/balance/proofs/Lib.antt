@@ -1,0 +1,9 @@
+pub mod Kept
+pub mod Exact
+pub mod Answers
+pub mod Turns
+pub mod Alike
+pub mod Promised
+pub mod OnBytes
+pub mod Determined
+pub mod Cases

@@ -1,0 +1,88 @@
+-- `weigh::arcs` meets its contract. The loop keeps what the arcs passed weigh.
+-- Assumes nothing.
+use mathlib.Core.Path.{_≡_, ap, _∙_}
+use Prim.Native.Nat.{ℕ, _+_, _-_, _*_, _≤_}
+use native.Mathlib.Omega.{arith}
+use Rattle.forms.specs.Word.{byte}
+use Rattle.balance.specs.Weights.{weighed}
+use Rattle.balance.specs.Told.{weightsIn}
+use Rattle.balance.proofs.Exact.{word-by-byte}
+use Rattle.balance.proofs.Turns.{weighed-begin, weighed-turn}
+use borrow.Author.Needs.{needs}
+use Rattle.balance.proofs.weigh.arcs.Statement.{statement}
+use Rattle.balance.proofs.weigh.arcs.Tie as tie
+
+abbrev Inv-loop : tie.InvT-loop
+Inv-loop net from weights places weight₀ p₀ weight p = (p ≤ places) × (weight ≡ weighed p (weightsIn weights) (λ q. byte net (from + q))) × (weight ≤ p * 16711425)
+
+abbrev μ-loop : tie.MeasureT-loop
+μ-loop net from weights places weight₀ p₀ weight p = places - p
+
+loop-holds : tie.Need-loop-holds Inv-loop μ-loop
+loop-holds c = let a = c .before .before .args in (omega arith, weighed-begin (weightsIn (a .weights .now)) (λ q. byte (a .net .now) (a .from + q)), omega arith)
+
+mul-read16 : tie.Need-mul-read16 Inv-loop μ-loop
+mul-read16 c = search needs
+
+read16-requires : tie.Need-read16-requires Inv-loop μ-loop
+read16-requires c κs = search needs
+
+add-wide : tie.Need-add-wide Inv-loop μ-loop
+add-wide c = search needs
+
+shared-slice-read-wide : tie.Need-shared-slice-read-wide Inv-loop μ-loop
+shared-slice-read-wide c = search needs
+
+wide-requires : tie.Need-wide-requires Inv-loop μ-loop
+wide-requires c κs = search needs
+
+-- a word by a byte
+small : (c : tie.After-wide Inv-loop μ-loop) → c .before .before .read16 .result * c .wide .result ≤ 16711425
+small c = word-by-byte _ _ (c .before .before .read16 .ensures .1) (c .wide .ensures .1)
+
+mul-one : tie.Need-mul-one Inv-loop μ-loop
+mul-one c = omega (arith, small c)
+
+add-weight : tie.Need-add-weight Inv-loop μ-loop
+add-weight c = omega (arith, small c)
+
+add-p : tie.Need-add-p Inv-loop μ-loop
+add-p c = omega arith
+
+loop-less : tie.Need-loop-less Inv-loop μ-loop
+loop-less c = omega arith
+
+loop-again : tie.Need-loop-again Inv-loop μ-loop
+loop-again c =
+    let l = c .before .before .before .before in
+    let a = l .before .before .before .args in (
+      omega arith,
+      weighed-turn (weightsIn (a .weights .now)) (λ q. byte (a .net .now) (a .from + q)) (l .loop .p) (l .loop .weight) _ _ (l .loop .inv .1) (c .before .before .read16 .ensures .0) (c .wide .ensures .0),
+      omega (arith, small c),
+    )
+
+returns : tie.Need-returns Inv-loop μ-loop
+returns c =
+    let l = c .before in
+    let a = l .before .before .before .args in
+    let done : l .loop .p ≡ a .places = omega arith in
+    (l .loop .inv .1 ∙ ap (λ (n : ℕ). weighed n (weightsIn (a .weights .now)) (λ q. byte (a .net .now) (a .from + q))) done, omega arith)
+
+pub arcs-spec : {M : Type 1} → statement M
+arcs-spec =
+    tie.close
+    (tie.spec
+    Inv-loop
+    μ-loop
+    loop-holds
+    mul-read16
+    read16-requires
+    add-wide
+    shared-slice-read-wide
+    wide-requires
+    mul-one
+    add-weight
+    add-p
+    loop-less
+    loop-again
+    returns)

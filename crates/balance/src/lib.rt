@@ -1,0 +1,3 @@
+// Whether a net balances under weights of its places, and what a state weighs (request W6).
+pub mod call;
+pub mod weigh;
