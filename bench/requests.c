@@ -5,7 +5,7 @@
 #include <string.h>
 
 // The parameters of each kind of request: s a slice, n a number, b a number that is a byte, f one that is 0 or 1.
-static const char *const parameters[] = {"", "s", "ss", "ss", "ssbbf", "ssbbf", "ssn", "ss", "sssf", "sssnf", "sn", "sssn"};
+static const char *const parameters[] = {"", "s", "ss", "ss", "ssbbf", "ssbbf", "ssn", "ss", "sssf", "sssnf", "sn", "sssn", "sss"};
 
 static int read_number(size_t *v)
 {

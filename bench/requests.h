@@ -6,7 +6,7 @@
 #include <stdint.h>
 
 // A request's first byte.
-enum { CHECK_NET = 1, INITIAL, CHECK_STATE, EVENT, BACK, DEGREE, OWED, RUN_LOG, WALK_LOG, STEP, MAKE_PAGE, LAST_CALL = MAKE_PAGE };
+enum { CHECK_NET = 1, INITIAL, CHECK_STATE, EVENT, BACK, DEGREE, OWED, RUN_LOG, WALK_LOG, STEP, MAKE_PAGE, BALANCE, LAST_CALL = BALANCE };
 
 // The longest slice.
 enum { MAX_SLICE = 65536 };

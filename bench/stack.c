@@ -16,6 +16,7 @@
 static const char *const names[] = {
     "",       "check_net", "initial", "check_state", "event", "back",
     "degree", "owed",      "run",     "walk",        "step",  "page",
+    "balance",
 };
 
 static Request asked;
@@ -31,6 +32,7 @@ static void make_call(void)
         menu_told walk;
         menu_step_told step;
         menu_page_told page;
+        menu_balance_told balance;
     } told;
     uint8_t *a = asked.slice[0], *b = asked.slice[1], *c = asked.slice[2];
     size_t la = asked.size[0], lb = asked.size[1], lc = asked.size[2], m = asked.number[0], n = asked.number[1], o = asked.number[2];
@@ -48,6 +50,7 @@ static void make_call(void)
     case WALK_LOG: menu_walk(a, la, b, lb, c, lc, m, n, &told.walk); break;
     case STEP: menu_step(a, la, m, &told.step); break;
     case MAKE_PAGE: menu_page(a, la, b, lb, c, lc, m, &told.page); break;
+    case BALANCE: menu_balance(a, la, b, lb, c, lc, &told.balance); break;
     }
     // What follows a call keeps the compiler from putting a jump in its place.
     asked.call = 0;
@@ -123,6 +126,22 @@ static void both_ways(unsigned first, unsigned second)
     }
 }
 
+// The balance where each place weighs as much as it may: every transition gives what it takes, then the last one gives a token more; and
+// with a byte of the weights missing. Nothing is written, so there are no copies.
+static void balances(void)
+{
+    static uint8_t weights[2 * MENU_PLACES_MAX];
+    uint8_t *last_output = net + net_length - 1;
+    Request r = {BALANCE, {net, state, weights}, {net_length, state_length, 2 * places}, {0}};
+    memset(weights, 255, sizeof weights);
+    measure(r);
+    *last_output += 1;
+    measure(r);
+    *last_output -= 1;
+    r.size[2]--;
+    measure(r);
+}
+
 // Every call that is given a state, in this one.
 static void every_call(void)
 {
@@ -148,6 +167,7 @@ static void every_call(void)
     ask_of(MAKE_PAGE, MENU_LOG_BYTES(200), 200, 0, 0);
     ask_of(MAKE_PAGE, MENU_LOG_BYTES(0), 200, 0, 0);
     ask_of(MAKE_PAGE, MENU_LOG_BYTES(200), 0, 0, 0);
+    balances();
 }
 
 // Gives every place a token, so that a start that is refused is not for want of one.

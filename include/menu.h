@@ -1,8 +1,8 @@
 /*
- * The calls of the menu engine and of its page runner, for C (C99 and later) and C++.
+ * The calls of the menu engine, of its page runner and of its balance, for C (C99 and later) and C++.
  *
  * Link with libmenu.a, which is compiled for x86-64 Linux. The functions are proved: whatever bytes it is given, each answers and
- * writes exactly what the scope of the build (document 01, with requests W1 to W5) says, and ends. What a caller needs of it stands
+ * writes exactly what the scope of the build (document 01, with requests W1 to W6) says, and ends. What a caller needs of it stands
  * here; docs/C.md is a page on how to use the functions.
  *
  * STORED FORMS. All numbers are big-endian. Each form begins with a version byte, 1, and the length of the whole form in 4 bytes.
@@ -43,11 +43,29 @@
  * begins with no start made. It keeps the order of a step: owed ends come before any start, and behind a start only firings of age 0
  * come to be owed.
  *
+ * A BALANCE says whether tokens can vanish, or come from nothing. For it each place has a weight, 0 to 65,535, which the caller chooses
+ * and the net does not hold: `weights` of menu_balance has 2 bytes for each place, place 0 first, with no head, so 2P bytes. Lend 1
+ * for each place whose tokens are slots of the page and 0 for each whose tokens are not, and what is asked is whether the number of
+ * slots stays; where a token stands for n slots, lend n. These are not the input and output weights, which belong to the transitions.
+ *
+ * The weight that a transition takes in is its input weights, each times the weight of the place, added up; the weight that it puts out
+ * is the same of its output weights. A net balances where each transition puts out the weight that it takes in. The total of a state is
+ * its markings, each times the weight of the place, added up, plus, for each firing that runs, whatever its age, the weight that its
+ * transition takes in: what is under way counts. It is below 2 to the power of 60 for every net and state.
+ *
+ * It is proved: where the net balances, menu_balance tells the same total of whatever menu_event, menu_back, menu_run, menu_walk and
+ * menu_page leave, accepted or refused, in any order; and at a place with a weight above 0 no state that is reached holds more tokens
+ * than the total divided by that weight. Where the net does not balance (30), each end of a firing of the transition that is told
+ * changes the total, by the difference of its two weights. No start and no tick ever does.
+ *
+ * So under a net that balances no events and no steps back lead between two states with different totals. Equal totals do not show
+ * that some do, nor that a log is accepted. And 30 speaks of the net alone: whether such a firing ever comes about is not asked.
+ *
  * WHAT A CALLER LENDS
  *
  * - Each buffer is a pointer and then its length in bytes. What is wrong with the bytes in it is told by a number; no call
  *   asks that they are checked before.
- * - `net`, and `log` where it is const, are exactly the form: a longer buffer is refused. They are only read.
+ * - `net`, `weights`, and `log` where it is const, are exactly the form: a longer buffer is refused. They are only read.
  * - `state` may be longer than the state, which stands at its front. The bytes behind it are never written, and
  *   MENU_STATE_BYTES_MAX bytes are enough for every net.
  * - `log` of menu_page is room, whatever stands in it: MENU_LOG_BYTES(n) bytes are room for n events. It may be longer than
@@ -68,7 +86,7 @@
  * - Refused by 1 to 10 or 22: every byte as it was.
  * - Refused by another number: the state that stood when the refused event had its turn, to be done or to be taken back.
  *
- * In a refused answer all fields are 0, except `number`, `index` where it is a transition (4, 5, 6, 9) or the event that a run or a
+ * In a refused answer all fields are 0, except `number`, `index` where it is a transition (4, 5, 6, 9, 30) or the event that a run or a
  * walk stopped at, of a run or a walk that stopped at an event `done` and `ticks`, which tell how far it came, of such a run `started`,
  * which is told for the state just before that event, and, with 13, `place` and `shortage` of an event or a run.
  *
@@ -112,8 +130,8 @@ extern "C" {
  * without MENU_INTERFACE is interface 1. A program that names the interface it is written for is not compiled with another:
  *
  *     #include "menu.h"
- *     #if MENU_INTERFACE != 5
- *     #error "this program is written for interface 5 of menu.h"
+ *     #if MENU_INTERFACE != 6
+ *     #error "this program is written for interface 6 of menu.h"
  *     #endif
  *
  * Take header and library from one version. The linker does not see that a library is of another interface, and such a library may
@@ -121,7 +139,7 @@ extern "C" {
  * may only warn.
  */
 
-#define MENU_INTERFACE 5
+#define MENU_INTERFACE 6
 
 /* LIMITS */
 
@@ -130,16 +148,19 @@ extern "C" {
 #define MENU_TICKS_MAX 63          /* the longest lfd */
 #define MENU_EVENTS_MAX 24000      /* of a log */
 #define MENU_TOKENS_MAX 65535      /* of a place, and the firings of one transition at one age */
+#define MENU_WEIGHT_MAX 65535      /* of a place, for menu_balance */
 
 /* LENGTHS of the forms, with P places, T transitions and the state's D, and of the longest lawful ones */
 
 #define MENU_NET_BYTES(P, T) (7 + 2 * (P) + (T) * (2 + 2 * (P)))
 #define MENU_STATE_BYTES(P, T, D) (8 + 2 * (P) + 2 * (T) * (D))
 #define MENU_LOG_BYTES(events) (5 + 2 * (events))
+#define MENU_WEIGHTS_BYTES(P) (2 * (P))
 
 #define MENU_NET_BYTES_MAX MENU_NET_BYTES(MENU_PLACES_MAX, MENU_TRANSITIONS_MAX)                          /* 8,455 */
 #define MENU_STATE_BYTES_MAX MENU_STATE_BYTES(MENU_PLACES_MAX, MENU_TRANSITIONS_MAX, MENU_TICKS_MAX + 1)  /* 8,328 */
 #define MENU_LOG_BYTES_MAX MENU_LOG_BYTES(MENU_EVENTS_MAX)                                                /* 48,005 */
+#define MENU_WEIGHTS_BYTES_MAX MENU_WEIGHTS_BYTES(MENU_PLACES_MAX)                                        /* 128 */
 
 /* THE FIRST BYTE of an event, t being 0 to 63. The second is 0, or the age of the firing that ends. */
 
@@ -149,8 +170,8 @@ extern "C" {
 
 /*
  * NUMBERS, the field `number` of each answer. Of several faults the first is told: of the net, the room for an initial state, the
- * state, the log or the room for it, the request, and then event by event. `index` is the transition for 4, 5, 6 and 9, and otherwise
- * 0 but for a run and a walk.
+ * state, the log or the room for it, the weights of the places (31, then 30), the request, and then event by event. `index` is the
+ * transition for 4, 5, 6, 9 and 30, and otherwise 0 but for a run and a walk.
  *
  * Of an event 11 and 12 are told first; then of a start 13, 29, 14, of an end 15, 28, 16, 17, of a tick 18, 19, 20, in this order.
  *
@@ -197,7 +218,10 @@ enum menu_number {
     MENU_COUNT_OVERFULL = 27,      /* end taken back: the count at that age is 65,535, and would have been one more before it */
     /* the request */
     MENU_TOO_MANY = 22,            /* walk: more events asked than the log has */
-    MENU_NO_SUCH_STEP = 23         /* step: the log has no such step */
+    MENU_NO_SUCH_STEP = 23,        /* step: the log has no such step */
+    /* the weights of the places, of menu_balance alone */
+    MENU_UNBALANCED = 30,          /* a transition puts out another weight than it takes in; `index` is the lowest such transition */
+    MENU_NO_WEIGHTS = 31           /* not exactly 2P bytes; told before 30 */
 };
 
 /* STANDINGS, the field `standing` of an owed report: the first that holds. It is 0 where the report is refused. */
@@ -287,6 +311,13 @@ typedef struct menu_page_told {
     uint64_t ticks;                /* ticks among those */
 } menu_page_told;
 
+/* of menu_balance */
+typedef struct menu_balance_told {
+    uint64_t number;
+    uint64_t index;
+    uint64_t total;                /* what the state weighs, with its firings; where it is refused, 0 */
+} menu_balance_told;
+
 /* CALLS */
 
 /* Checks a net. Tells 0 to 6. */
@@ -331,6 +362,11 @@ void menu_step(const uint8_t *log, size_t log_length, size_t k, menu_step_told *
 /* Makes a page of at most `budget` events from a state, and writes its log at the front of `log`. Tells 0 to 6, 8 to 10. */
 void menu_page(const uint8_t *net, size_t net_length, uint8_t *state, size_t state_length, uint8_t *log, size_t log_length,
                size_t budget, menu_page_told *answer);
+
+/* Checks that each transition puts out the weight that it takes in, and tells the total of a state. `weights` are those of the places,
+ * 2 bytes each. Nothing but the answer is written. Tells 0 to 6, 8, 9, 30, 31. */
+void menu_balance(const uint8_t *net, size_t net_length, const uint8_t *state, size_t state_length, const uint8_t *weights,
+                  size_t weights_length, menu_balance_told *answer);
 
 #ifdef __cplusplus
 }

@@ -8,8 +8,8 @@
 #include <stdlib.h>
 
 #include "menu.h"
-#if MENU_INTERFACE != 5
-#error "this program is written for interface 5 of menu.h"
+#if MENU_INTERFACE != 6
+#error "this program is written for interface 6 of menu.h"
 #endif
 
 typedef struct slice {
@@ -18,10 +18,11 @@ typedef struct slice {
     size_t capacity;
 } slice;
 
-static uint8_t net_bytes[16384], state_bytes[16384], log_bytes[65536];
+static uint8_t net_bytes[16384], state_bytes[16384], log_bytes[65536], weight_bytes[65536];
 static slice net = {net_bytes, 0, sizeof net_bytes};
 static slice state = {state_bytes, 0, sizeof state_bytes};
 static slice events = {log_bytes, 0, sizeof log_bytes};
+static slice weights = {weight_bytes, 0, sizeof weight_bytes};
 
 static void bad_request(void)
 {
@@ -193,9 +194,18 @@ static void answer_page(void)
     show(&events);
 }
 
+static void answer_balance(void)
+{
+    menu_balance_told told;
+
+    read_slice(&weights);
+    menu_balance(net.bytes, net.length, state.bytes, state.length, weights.bytes, weights.length, &told);
+    tell("balance", &told, sizeof told);
+}
+
 static void (*const calls[])(void) = {
     answer_net,  answer_initial, answer_state, answer_event, answer_back, answer_degree,
-    answer_owed, answer_run,     answer_walk,  answer_step,  answer_page,
+    answer_owed, answer_run,     answer_walk,  answer_step,  answer_page, answer_balance,
 };
 
 int main(void)
@@ -203,7 +213,7 @@ int main(void)
     int call;
 
     while ((call = getchar()) != EOF) {
-        if (call < 1 || call > 11)
+        if (call < 1 || call > 12)
             bad_request();
         /* all but the step begin with a net, and all of these but the first go on with a state */
         if (call != 10)

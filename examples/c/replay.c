@@ -10,8 +10,8 @@
 #include <stdlib.h>
 
 #include "menu.h"
-#if MENU_INTERFACE != 5
-#error "this program is written for interface 5 of menu.h"
+#if MENU_INTERFACE != 6
+#error "this program is written for interface 6 of menu.h"
 #endif
 
 #include "row.h"

@@ -112,3 +112,32 @@ TRIO = bytes.fromhex("01 00 00 00 1D 02 03 00 00 00 00 00 02 01 00 00 01 00 01 0
 
 def trio(marking, counts=None):
     return bytes.fromhex("01 00 00 00 1E 02 03 03") + values_of(marking, counts, 3, 3)
+
+
+# two places; transition 0, of up to 2 ticks, takes 3 tokens from place 0 and gives 2 to place 1, and transition 1, of up
+# to one tick, takes 4 from there and gives 6 back
+SWAP = bytes.fromhex("01 00 00 00 17 02 02 00 00 00 00 00 02 03 00 00 02 00 01 00 04 06 00")
+
+
+def swap(marking, counts=None):
+    return bytes.fromhex("01 00 00 00 18 02 02 03") + values_of(marking, counts, 2, 3)
+
+
+def column(*moving):
+    """Two places, and 64 transitions of up to one tick: each takes a token from place 0 and gives it back, but for
+    the moving ones, which give it to place 1."""
+    rows = (bytes.fromhex("00 01 01 00 00 01" if t in moving else "00 01 01 00 01 00") for t in range(64))
+    return bytes.fromhex("01 00 00 01 8B 02 40 00 00 00 00") + b"".join(rows)
+
+
+def column_state(marking, counts=None):
+    return bytes.fromhex("01 00 00 01 0C 02 40 02") + values_of(marking, counts, 64, 2)
+
+
+# the longest net: 64 places, and 64 transitions of 63 ticks that take 255 tokens from each place and give as many
+LONGEST = bytes.fromhex("01 00 00 21 07 40 40") + bytes(128) + (b"\x3f\x3f" + b"\xff" * 128) * 64
+
+
+def longest(tokens, count):
+    """Its state with so many tokens at each place, and so many firings of each transition at each age."""
+    return bytes.fromhex("01 00 00 20 88 40 40 40") + words([tokens] * 64 + [count] * 4096)

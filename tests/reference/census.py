@@ -2,8 +2,8 @@
 """What the cases of document01.py and a seeded stream of requests show: the reference's answers counted.
 
 By number and call; those of 13 by what place and shortage tell apart; pages by stop and by the
-limits that they come near; those that take a fact by what they show of W5; and the requests that
-each wrong reading changes.
+limits that they come near; those that take a fact by what they show of W5; balances by the limits
+that they come near; and the requests that each wrong reading changes.
 
 usage: census.py SEED COUNT
 """
@@ -13,6 +13,8 @@ import itertools
 import sys
 
 import ask
+import balance_census
+import balance_misreadings
 import document01
 import generate
 import material
@@ -126,13 +128,16 @@ def readings(name, number):
         yield from misreadings.OF_STEPS_BACK.items()
     if name in opening_census.CALLS:
         yield from misreadings.OF_OPENINGS.items()
+    if name == "balance":
+        yield from balance_misreadings.OF_BALANCES.items()
 
 
 class Census:
     """Counts of what the requests show."""
 
     def __init__(self):
-        self.told, self.short, self.stops, self.page, self.opening, self.wrong = (collections.Counter() for _ in range(6))
+        self.told, self.short, self.stops, self.page = (collections.Counter() for _ in range(4))
+        self.opening, self.balance, self.wrong = (collections.Counter() for _ in range(3))
         self.size = 0
 
     def add(self, name, arguments):
@@ -149,6 +154,9 @@ class Census:
         if name in opening_census.CALLS:
             kinds = opening_census.shown_by(name, arguments, line)
             self.opening.update({(kind, name): int(holds) for kind, holds in kinds.items()})
+        if name == "balance":
+            kinds = balance_census.shown_by(arguments, line)
+            self.balance.update({(kind, name): int(holds) for kind, holds in kinds.items()})
         for reading, changes in readings(name, number):
             self.wrong[reading, name] += misreadings.shows(changes, name, arguments, line)
 
@@ -167,7 +175,7 @@ def kinds_of(counts):
 def print_numbers(told, size):
     names = [name for _, name, _ in wire.TABLE]
     print("number  " + "".join(f"{name:>12}" for name in names) + "       total")
-    for number in range(30):
+    for number in range(32):
         row = [told[number, name] for name in names]
         print(f"{number:6}  " + "".join(f"{value or '.':>12}" for value in row) + f"{sum(row):12}")
     print(f"{told.total()} requests, {size} bytes")
@@ -183,7 +191,13 @@ def census(seed, count):
     print_table("stop", reference.STOPS, {(stop, "page"): found.stops[stop] for stop in reference.STOPS}, ["page"])
     print_table("of a page", kinds_of(found.page), found.page, ["page"])
     print_table("of W5", sorted(kinds_of(found.opening)), found.opening, opening_census.CALLS)
-    tables = (misreadings.OF_PAGES, ["page"]), (misreadings.OF_STEPS_BACK, ["back", "walk"]), (misreadings.OF_OPENINGS, opening_census.CALLS)
+    print_table("of W6", kinds_of(found.balance), found.balance, ["balance"])
+    tables = (
+        (misreadings.OF_PAGES, ["page"]),
+        (misreadings.OF_STEPS_BACK, ["back", "walk"]),
+        (misreadings.OF_OPENINGS, opening_census.CALLS),
+        (balance_misreadings.OF_BALANCES, ["balance"]),
+    )
     for readings_of, names in tables:
         print_table("a wrong reading changes", readings_of, found.wrong, names)
     unseen = [reading for of, names in tables for reading in of if not any(found.wrong[reading, name] for name in names)]

@@ -1,7 +1,8 @@
 #!/usr/bin/env python3
 """The cases that document 01 itself gives, on the children's row net, and cases of
 requests W1, W2 and W4, whose answers are worked out by hand. All begin with no start
-made. Those of request W5 are in opening_cases.py; they are written and checked with these.
+made. Those of request W5 are in opening_cases.py, and those of W6 in balance_cases.py;
+they are written and checked with these.
 
 usage: document01.py          writes them as requests, in the document's order,
                               those without a K first, those of the requests last,
@@ -12,6 +13,7 @@ usage: document01.py          writes them as requests, in the document's order,
 import sys
 
 import ask
+import balance_cases
 import menupage
 import menurun
 import opening_cases
@@ -310,7 +312,7 @@ UNWRITTEN = [
     refused_page("a buffer of 4 bytes, at rest, budget 0", 10, 0, FINAL, 4, 0),
 ]
 
-CASES = REMAINING + PROVED + SHORT + BARRED + WRITTEN + UNWRITTEN + opening_cases.CASES
+CASES = REMAINING + PROVED + SHORT + BARRED + WRITTEN + UNWRITTEN + opening_cases.CASES + balance_cases.CASES
 
 # these are checked and compared, but not stored
 LONGEST = [
@@ -432,7 +434,7 @@ def check():
 if __name__ == "__main__":
     if sys.argv[1:] == ["--check"]:
         count, wrong = check()
-        print(f"{count - len(wrong)} of {count} as document 01, W1, W2, W4 and W5 say")
+        print(f"{count - len(wrong)} of {count} as document 01, W1, W2, W4, W5 and W6 say")
         for title in wrong:
             print(f"differs: {title}")
         sys.exit(1 if wrong else 0)

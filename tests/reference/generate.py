@@ -11,6 +11,7 @@ import os
 import random
 import sys
 
+import balance_requests
 import material
 import opening_material
 import reference
@@ -381,7 +382,7 @@ def flipped_requests(rng):
         yield name, arguments
 
 
-# every call but the page
+# every call but the page and the balance
 SCENARIOS = (
     (net_requests, 9.5),
     (initial_requests, 4),
@@ -568,12 +569,12 @@ def longest_requests(rng, turn):
 
 LONGEST_EVERY = 1_000
 FULL_EVERY = 250
-PAGE_EVERY = 4
+PAGE_OR_BALANCE_EVERY = 4
 LONGEST_PAGE_EVERY = 1_500
 
 
 def other_requests(seed):
-    """Requests of every call but the page, without end."""
+    """Requests of every call but the page and the balance, without end."""
     rng = random.Random(seed)
     kinds, shares = zip(*SCENARIOS)
     made = longest = full = 0
@@ -608,10 +609,11 @@ def pages(seed):
 
 
 def requests(seed, count):
-    """So many requests, as (name, arguments). Every fourth is a page."""
-    others, paged = other_requests(seed), pages(seed)
+    """So many requests, as (name, arguments). Every fourth is a page or a balance, of five three and two."""
+    others, paged, balances = other_requests(seed), pages(seed), balance_requests.balances(seed)
+    fourth = itertools.cycle([paged, balances, paged, balances, paged])
     for made in range(1, count + 1):
-        yield next(others if made % PAGE_EVERY else paged)
+        yield next(others if made % PAGE_OR_BALANCE_EVERY else next(fourth))
 
 
 # ---- bad requests
@@ -641,7 +643,7 @@ def bad_requests(rng):
     number = wire.four_bytes
     return [
         b"\x00" + good[1:],
-        b"\x0c" + good[1:],
+        b"\x0d" + good[1:],
         b"\xff",
         good[:1],
         good[: rng.randrange(1, len(good))],
@@ -662,6 +664,11 @@ def bad_requests(rng):
         wire.encode("page", net, b"", bytes(65_537), 0),
         wire.encode("page", net, b"", bytes(7), 9)[:-5],
         wire.encode("page", net, b"", bytes(7), 9)[:-1],
+        wire.encode("balance", bytes(16_385), b"", b""),
+        wire.encode("balance", net, bytes(16_385), b""),
+        wire.encode("balance", net, b"", bytes(65_537)),
+        wire.encode("balance", net, b"", bytes(7))[:-1],
+        wire.encode("balance", net, b"", bytes(7))[:-9],
     ]
 
 

@@ -1,6 +1,6 @@
 """The stream of requests that the program `menuask` reads."""
 
-CAPACITY = {"net": 16_384, "state": 16_384, "log": 65_536}
+CAPACITY = {"net": 16_384, "state": 16_384, "log": 65_536, "weights": 65_536}
 MOST = {"first": 255, "second": 255, "started": 1}
 
 # kind byte, name of the call, its parameters: a slice is named in CAPACITY,
@@ -17,6 +17,7 @@ TABLE = (
     (9, "walk", ("net", "state", "log", "n", "started")),
     (10, "step", ("log", "k")),
     (11, "page", ("net", "state", "log", "budget")),
+    (12, "balance", ("net", "state", "weights")),
 )
 BY_KIND = {kind: (name, parameters) for kind, name, parameters in TABLE}
 BY_NAME = {name: (kind, parameters) for kind, name, parameters in TABLE}

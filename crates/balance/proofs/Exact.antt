@@ -1,9 +1,9 @@
 -- The test is exact, since of every transition some lawful state ends a firing; and no total passes 60 bits.
 -- Assumes nothing.
-use mathlib.Core.Path.{_≡_, ap, sym, _∙_}
+use mathlib.Core.Path.{_≡_, ap, _∙_}
 use mathlib.Core.Bool.{false}
-use Prim.Native.Nat.{ℕ, zero, suc, _+_, _*_, _^_, _<_, _≤_}
-use native.Mathlib.Nat.{mul-le-mul, le-refl}
+use Prim.Native.Nat.{ℕ, _+_, _*_, _^_, _<_, _≤_}
+use native.Mathlib.Nat.{mul-le-mul}
 use native.Mathlib.Omega.{arith}
 use Rattle.model.specs.declared.event.Event.the-variants as event
 use Rattle.model.specs.Tab.{sum, one}
@@ -14,7 +14,7 @@ use Rattle.model.proofs.Tab.{one-cases, one-here, one-off}
 use Rattle.model.proofs.Sums.{sum-le}
 use Rattle.model.proofs.Shape.{lfd-fits, build-shaped, tokens-build, count-build}
 use Rattle.balance.specs.Weights.{weighed, weightIn, running, firingsWeight, total}
-use Rattle.balance.specs.Demands.{KeepsOnlyIf, Small, FitsWord}
+use Rattle.balance.specs.Demands.{KeepsOnlyIf, FitsWord}
 use Rattle.balance.proofs.Kept.{accounted}
 
 -- ONE FIRING THAT ENDS

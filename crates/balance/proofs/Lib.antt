@@ -1,3 +1,4 @@
+pub mod Cases
 pub mod Kept
 pub mod Exact
 pub mod Answers
@@ -6,4 +7,3 @@ pub mod Alike
 pub mod Promised
 pub mod OnBytes
 pub mod Determined
-pub mod Cases

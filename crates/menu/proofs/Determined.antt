@@ -26,6 +26,8 @@ use Rattle.menu.proofs.menu_step.Reads as step
 use Rattle.menu.proofs.menu_step.Kinds as step-kinds
 use Rattle.menu.proofs.menu_page.Reads as page
 use Rattle.menu.proofs.menu_page.Kinds as page-kinds
+use Rattle.menu.proofs.menu_balance.Reads as balance
+use Rattle.menu.proofs.menu_balance.Kinds as balance-kinds
 
 pub check-net-tells : LeavesOne 2 check-net-kinds.ps check-net-kinds.r check-net.Learnt (λ κs s. now (s .1 .0))
 check-net-tells κs args x y s s′ p q = p .0 ∙ sym (q .0)
@@ -80,3 +82,6 @@ page-leaves κs args x y s s′ p q = p .1 .0 ∙ sym (q .1 .0)
 
 pub page-leaves-log : LeavesOne 4 page-kinds.ps page-kinds.r page.Learnt (λ κs s. now (s .1 .1 .0))
 page-leaves-log κs args x y s s′ p q = p .1 .1 .0 ∙ sym (q .1 .1 .0)
+
+pub balance-tells : LeavesOne 4 balance-kinds.ps balance-kinds.r balance.Learnt (λ κs s. now (s .1 .1 .1 .0))
+balance-tells κs args x y s s′ p q = p .0 ∙ sym (q .0)

@@ -1,7 +1,7 @@
 -- The very numbers that the calls tell of the children's row net: computed.
 -- Assumes nothing.
 use mathlib.Core.Path.{refl}
-use Rattle.model.specs.Tab.{tab, all, largest, least, howMany, lowest, one}
+use Rattle.model.specs.Tab.{tab, all, largest, least, howMany, lowest, sum, one}
 use Rattle.model.specs.Net.{width, tokens, count, build}
 use Rattle.model.specs.Rules.{lackingPlace, enabled?, short, no-start-owed?, no-end-owed?, nothing-running?, timely?, has-room?, covers?, none-fresh?}
 use Rattle.model.specs.Rules.{may-end?, owes-no-old-end?, no-old-end-owed?}
@@ -24,10 +24,12 @@ use Rattle.engine.specs.Calls.{netTold, stateTold, eventTold, degreeTold, owedT
 use Rattle.runner.specs.Choice.{choice}
 use Rattle.runner.specs.Page.{page}
 use Rattle.runner.specs.Call.{examinePage, pageTold}
+use Rattle.balance.specs.Weights.{weighed, firstUneven, running, firingsWeight, total}
+use Rattle.balance.specs.Told.{weighing, weighingBy, balanceTold}
 use Rattle.menu.specs.Edges.{Edges}
 
 pub edges : Edges
-unfolding netTold stateTold eventTold degreeTold owedTold runTold runLeft walkTold stepTold pageTold examinePage examineNet examineState examineLog
+unfolding netTold stateTold eventTold degreeTold owedTold runTold runLeft walkTold stepTold pageTold balanceTold weighingBy weighing total firingsWeight running firstUneven weighed sum examinePage examineNet examineState examineLog
     checkNet net-head? checkRow some-weight? checkState has-head? none-past? checkLog is-log? begins? checksInTurn
     netOf stateOf eventsIn word word32 blank? setWord putWords putRows rowAt countAt stateLength written startFrom endFrom wordOf
     page choice ticksIn startedAfter turns run walk walkBack inTurn owed owes-start? owes-end? standingOf degree times apply back started ended ticked unstarted unended unticked older
@@ -57,4 +59,6 @@ edges = record {
   page = refl;
   spent-page = refl;
   no-page = refl;
+  balance = refl;
+  unbalanced = refl;
 }

@@ -10,7 +10,9 @@ use Rattle.forms.specs.Cases.{rowNet, rowState, rowLog}
 use Rattle.owed.specs.Edges.{spent}
 use Rattle.engine.specs.Calls.{netTold, stateTold, eventTold, degreeTold, owedTold, runTold, runLeft, walkTold, stepTold}
 use Rattle.runner.specs.Call.{pageTold}
-use Rattle.menu.specs.Fields.{saidStarted, verdictFields, eventFields, degreeFields, owedFields, runFields, walkFields, stepFields, pageFields}
+use Rattle.balance.specs.Told.{balanceTold}
+use Rattle.balance.specs.Cases.{ones}
+use Rattle.menu.specs.Fields.{saidStarted, verdictFields, eventFields, degreeFields, owedFields, runFields, walkFields, stepFields, pageFields, balanceFields}
 
 -- what K1 leaves: a token in place 2, and none elsewhere
 abbrev filled : List ℕ
@@ -72,3 +74,6 @@ pub record Edges : Type 0 where
   pub page : pageFields (pageTold rowNet rowState (replicate 19 0) 9) ≡ 0 ∷ 0 ∷ 1 ∷ 7 ∷ 3 ∷ []
   pub spent-page : pageFields (pageTold rowNet rowState (replicate 15 0) 4) ≡ 0 ∷ 0 ∷ 2 ∷ 4 ∷ 3 ∷ []
   pub no-page : pageFields (pageTold rowNet overdue (replicate 4 0) 9) ≡ 9 ∷ 1 ∷ 0 ∷ 0 ∷ 0 ∷ []
+  -- 258 tokens of weight 1; and transition 1 puts out 0 for 1
+  pub balance : balanceFields (balanceTold rowNet rich ones) ≡ 0 ∷ 0 ∷ 258 ∷ []
+  pub unbalanced : balanceFields (balanceTold rowNet rich (set ones 5 0)) ≡ 30 ∷ 1 ∷ 0 ∷ []

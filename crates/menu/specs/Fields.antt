@@ -14,6 +14,7 @@ use Rattle.engine.specs.declared.answers.DegreeTold.{DegreeTold}
 use Rattle.engine.specs.declared.answers.OwedTold.{OwedTold}
 use Rattle.engine.specs.declared.answers.StepTold.{StepTold}
 use Rattle.runner.specs.declared.call.PageTold.{PageTold}
+use Rattle.balance.specs.declared.call.BalanceTold.{BalanceTold}
 
 -- a start has happened in the step, as a caller says it: 0 is no, and any other number yes
 abbrev pub saidStarted : ℕ → Bool
@@ -66,3 +67,6 @@ stepFields told = told .number ∷ told .index ∷ told .start ∷ told .length 
 
 abbrev pub pageFields : PageTold → List ℕ
 pageFields told = told .number ∷ told .index ∷ told .stop ∷ told .events ∷ told .ticks ∷ []
+
+abbrev pub balanceFields : BalanceTold → List ℕ
+balanceFields told = told .number ∷ told .index ∷ told .total ∷ []

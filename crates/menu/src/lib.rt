@@ -1,8 +1,9 @@
-// The calls of the engine and of the page runner for programs in C and other languages, as a static library; include/menu.h declares them. A slice is a pointer
-// and a length there. Each function tells its answer in a lent array of numbers, in the order that it has there, so that one form serves
+// The calls of the engine, of the page runner and of the balance for programs in C and other languages, as a static library; include/menu.h declares
+// them. A slice is a pointer and a length there. Each function tells its answer in a lent array of numbers, in the order that it has there, so that one form serves
 // every call and no struct's layout is agreed upon twice. None asks anything of the bytes that it is given, and the last clause of each
 // contract is the call's promise, of these very numbers and bytes. `started` is 0 where no start has happened in the step, and any other number
 // where one has.
+use balance::call as balance_call;
 use engine::calls;
 use runner::call;
 ghost use mathlib.Core.Path.{_≡_};
@@ -12,7 +13,10 @@ ghost use Rattle.engine.specs.Promised.{CheckNetPromise, CheckStatePromise, Ini
 ghost use Rattle.engine.specs.Promised.{DegreePromise, OwedPromise, RunPromise, WalkPromise, StepPromise};
 ghost use Rattle.runner.specs.Call.{pageTold, stateLeft, logLeft};
 ghost use Rattle.runner.specs.Promised.{PagePromise};
+ghost use Rattle.balance.specs.Told.{balanceTold};
+ghost use Rattle.balance.specs.Promised.{BalancePromise};
 ghost use Rattle.menu.specs.Fields.{saidStarted, OfAnswer, verdictFields, eventFields, degreeFields, owedFields, runFields, walkFields, stepFields, pageFields};
+ghost use Rattle.menu.specs.Fields.{balanceFields};
 
 // Checks a net: 1 to 6.
 #[no_mangle]
@@ -206,4 +210,14 @@ pub extern "C" fn menu_page(
         told.events as u64,
         told.ticks as u64,
     ];
+}
+
+// Whether each transition puts out the weight it takes in, under weights of two bytes for each place, and what the state weighs: 1 to 6, 8, 9, 31, 30.
+#[no_mangle]
+pub extern "C" fn menu_balance(net: &[u8], state: &[u8], weights: &[u8], answer: &mut [u64; 3])
+    ensures { λ _. ⌜ now (answer .exit) ≡ balanceFields (balanceTold (now (net .entry)) (now (state .entry)) (now (weights .entry))) ⌝ }
+    ensures { λ _. ⌜ OfAnswer balanceFields (now (answer .exit)) (λ r. BalancePromise (now (net .entry)) (now (state .entry)) (now (weights .entry)) r) ⌝ }
+{
+    let told = balance_call::balance(net, state, weights);
+    *answer = [told.number as u64, told.index as u64, told.total];
 }

@@ -17,7 +17,7 @@ pub past : (least k : ℕ) → least ≤ k → ¬ (k ≡ least) → least + 1 �
 past least k l n = omega arith
 
 module _ (kind first second started : ℕ) (asked : asks? kind first second started ≡ true) where
-  fine : cond (within? kind 4 5) (leb first 255 && leb second 255) (within? kind 1 11) ≡ true
+  fine : cond (within? kind 4 5) (leb first 255 && leb second 255) (within? kind 1 12) ≡ true
   fine = both (leb started 1) _ asked .1
 
   bytes : within? kind 4 5 ≡ true → (first ≤ 255) × (second ≤ 255)
@@ -33,10 +33,10 @@ module _ (kind first second started : ℕ) (asked : asks? kind first second star
   unfolding within?
   back-bytes e = bytes (rw e refl)
 
-  pub known : (1 ≤ kind) × (kind ≤ 11)
+  pub known : (1 ≤ kind) × (kind ≤ 12)
   unfolding within?
   known = go (within? kind 4 5) refl
     where
-      go : (b : Bool) → within? kind 4 5 ≡ b → (1 ≤ kind) × (kind ≤ 11)
+      go : (b : Bool) → within? kind 4 5 ≡ b → (1 ≤ kind) × (kind ≤ 12)
       go true e = let (l, m) = both (leb 4 kind) (leb kind 5) e in (omega (arith, leb-true 4 kind l), omega (arith, leb-true kind 5 m))
-      go false e = let (l, m) = both (leb 1 kind) (leb kind 11) (rw e at fine) in (leb-true 1 kind l, leb-true kind 11 m)
+      go false e = let (l, m) = both (leb 1 kind) (leb kind 12) (rw e at fine) in (leb-true 1 kind l, leb-true kind 12 m)

@@ -37,5 +37,5 @@ answer-leaves κs args x y s s′ p q = line-once _ _ _ _ _ (now (s .0)) (now (s
 pub answer-leaves-state : LeavesOne 4 answer-kinds.ps answer-kinds.r answer.Learnt (λ κs s. now (s .1 .1 .1 .1 .1 .1 .0))
 answer-leaves-state κs args x y s s′ p q = p .1 .1 .0 ∙ sym (q .1 .1 .0)
 
-pub answer-leaves-log : LeavesOne 4 answer-kinds.ps answer-kinds.r answer.Learnt (λ κs s. now (s .1 .1 .1 .1 .1 .1 .1 .0))
-answer-leaves-log κs args x y s s′ p q = p .1 .1 .1 ∙ sym (q .1 .1 .1)
+pub answer-leaves-third : LeavesOne 4 answer-kinds.ps answer-kinds.r answer.Learnt (λ κs s. now (s .1 .1 .1 .1 .1 .1 .1 .0))
+answer-leaves-third κs args x y s s′ p q = p .1 .1 .1 ∙ sym (q .1 .1 .1)

@@ -8,7 +8,8 @@ use Rattle.text.specs.Lines.{bufferMost, lineMost, Line}
 use Rattle.engine.specs.Calls.{netTold, stateTold, initialTold, initialLeft, eventTold, eventLeft, backTold, backLeft}
 use Rattle.engine.specs.Calls.{degreeTold, owedTold, runTold, runLeft, walkTold, walkLeft, stepTold}
 use Rattle.runner.specs.Call.{pageTold, stateLeft, logLeft}
-use Rattle.menu.specs.Fields.{saidStarted, verdictFields, eventFields, degreeFields, owedFields, runFields, walkFields, stepFields, pageFields}
+use Rattle.balance.specs.Told.{balanceTold}
+use Rattle.menu.specs.Fields.{saidStarted, verdictFields, eventFields, degreeFields, owedFields, runFields, walkFields, stepFields, pageFields, balanceFields}
 
 -- the parts of a line
 pub record Reply : Type 0 where
@@ -63,6 +64,9 @@ stepName = 115 ∷ 116 ∷ 101 ∷ 112 ∷ []
 abbrev pub pageName : List ℕ
 pageName = 112 ∷ 97 ∷ 103 ∷ 101 ∷ []
 
+abbrev pub balanceName : List ℕ
+balanceName = 98 ∷ 97 ∷ 108 ∷ 97 ∷ 110 ∷ 99 ∷ 101 ∷ []
+
 -- THE REPLIES
 
 abbrev pub checkNetReply : List ℕ → Reply
@@ -103,9 +107,13 @@ abbrev pub pageReply : List ℕ → List ℕ → List ℕ → ℕ → Reply
 pageReply net state log budget =
     showsBoth pageName (pageFields (pageTold net state log budget)) (stateLeft net state log budget) (logLeft net state log budget)
 
--- by the byte that a request begins with: 1 to 11, for no other is answered (`asks?` of Requests)
+abbrev pub balanceReply : List ℕ → List ℕ → List ℕ → Reply
+balanceReply net state weights = tells balanceName (balanceFields (balanceTold net state weights))
+
+-- by the byte that a request begins with: 1 to 12, for no other is answered (`asks?` of Requests). The third slice is a log, the buffer for one,
+-- or weights
 unfoldable pub replyTo : ℕ → ℕ → ℕ → ℕ → List ℕ → List ℕ → List ℕ → Reply
-replyTo kind first second started net state log =
+replyTo kind first second started net state third =
     cond (eqb kind 1) (checkNetReply net)
     (cond (eqb kind 2) (initialReply net state)
     (cond (eqb kind 3) (checkStateReply net state)
@@ -113,25 +121,26 @@ replyTo kind first second started net state log =
     (cond (eqb kind 5) (backReply net state first second started)
     (cond (eqb kind 6) (degreeReply net state first)
     (cond (eqb kind 7) (owedReply net state)
-    (cond (eqb kind 8) (runReply net state log started)
-    (cond (eqb kind 9) (walkReply net state log first started)
-    (cond (eqb kind 10) (stepReply log first)
-    (pageReply net state log first))))))))))
+    (cond (eqb kind 8) (runReply net state third started)
+    (cond (eqb kind 9) (walkReply net state third first started)
+    (cond (eqb kind 10) (stepReply third first)
+    (cond (eqb kind 11) (pageReply net state third first)
+    (balanceReply net state third)))))))))))
 
 -- what the state's buffer holds afterwards
 unfoldable pub leftBy : ℕ → ℕ → ℕ → ℕ → List ℕ → List ℕ → List ℕ → List ℕ
-leftBy kind first second started net state log =
+leftBy kind first second started net state third =
     cond (eqb kind 2) (initialLeft net state)
     (cond (eqb kind 4) (eventLeft net state first second (saidStarted started))
     (cond (eqb kind 5) (backLeft net state first second (saidStarted started))
-    (cond (eqb kind 8) (runLeft net state log (saidStarted started))
-    (cond (eqb kind 9) (walkLeft net state log first (saidStarted started))
-    (cond (eqb kind 11) (stateLeft net state log first)
+    (cond (eqb kind 8) (runLeft net state third (saidStarted started))
+    (cond (eqb kind 9) (walkLeft net state third first (saidStarted started))
+    (cond (eqb kind 11) (stateLeft net state third first)
     state)))))
 
--- and the log's
-unfoldable pub logBy : ℕ → ℕ → List ℕ → List ℕ → List ℕ → List ℕ
-logBy kind first net state log = cond (eqb kind 11) (logLeft net state log first) log
+-- and the third slice's
+unfoldable pub thirdBy : ℕ → ℕ → List ℕ → List ℕ → List ℕ → List ℕ
+thirdBy kind first net state third = cond (eqb kind 11) (logLeft net state third first) third
 
 -- the line of a reply stands at the buffer's front
 abbrev pub Replied : Reply → List ℕ → List ℕ → ℕ → Type 0

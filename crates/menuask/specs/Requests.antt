@@ -1,6 +1,6 @@
 -- What a request has behind its first byte, which says the call (docs/ASK.md).
 -- Assumes nothing.
-use mathlib.Core.Bool.{Bool, _&&_, _||_, cond}
+use mathlib.Core.Bool.{Bool, not, _&&_, _||_, cond}
 use Prim.Native.Nat.{ℕ}
 use lib.Dec.{eqb, leb}
 use Rattle.menuask.specs.declared.request.Parts.{Parts}
@@ -9,17 +9,17 @@ use Rattle.menuask.specs.declared.request.Parts.{Parts}
 abbrev pub sliceMost : ℕ
 sliceMost = 16384
 
--- and a log so many
-abbrev pub logMost : ℕ
-logMost = 65536
+-- and the third slice so many: a log, the buffer for one, or weights
+abbrev pub thirdMost : ℕ
+thirdMost = 65536
 
 -- the byte is one of these
 unfoldable pub within? : ℕ → ℕ → ℕ → Bool
 within? kind least most = leb least kind && leb kind most
 
--- or it asks for a page
-unfoldable pub within-or-page? : ℕ → ℕ → ℕ → Bool
-within-or-page? kind least most = eqb kind 11 || within? kind least most
+-- it is one from `least` on, and no step, which has a log alone
+unfoldable pub no-step? : ℕ → ℕ → Bool
+no-step? kind least = not (eqb kind 10) && within? kind least 12
 
 -- two numbers, the bytes of an event; or one: a transition, a number of events, of a step, or a budget
 abbrev pub numbersOf : ℕ → ℕ
@@ -32,13 +32,13 @@ takes-fact? kind = within? kind 4 5 || within? kind 8 9
 -- its slices and numbers, in this order
 abbrev pub partsOf : ℕ → Parts
 partsOf kind = record {
-  net = within-or-page? kind 1 9;
-  state = within-or-page? kind 2 9;
-  log = within? kind 8 11;
+  net = no-step? kind 1;
+  state = no-step? kind 2;
+  third = within? kind 8 12;
   numbers = numbersOf kind;
   started = takes-fact? kind;
 }
 
 -- there is such a call, the bytes of an event are bytes, and whether a start has happened is said by 0 or 1
 abbrev pub asks? : ℕ → ℕ → ℕ → ℕ → Bool
-asks? kind first second started = leb started 1 && cond (within? kind 4 5) (leb first 255 && leb second 255) (within? kind 1 11)
+asks? kind first second started = leb started 1 && cond (within? kind 4 5) (leb first 255 && leb second 255) (within? kind 1 12)

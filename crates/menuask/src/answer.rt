@@ -10,7 +10,7 @@ ghost use Rattle.runner.specs.Call.{stateLeft, logLeft};
 ghost use Rattle.menu.specs.Fields.{saidStarted};
 ghost use Rattle.menuask.specs.Requests.{asks?};
 ghost use Rattle.menuask.specs.Replies.{checkNetReply, initialReply, checkStateReply, eventReply, backReply, degreeReply};
-ghost use Rattle.menuask.specs.Replies.{owedReply, runReply, walkReply, stepReply, pageReply, replyTo, leftBy, logBy, Replied, replyMost, bothMost};
+ghost use Rattle.menuask.specs.Replies.{owedReply, runReply, walkReply, stepReply, pageReply, balanceReply, replyTo, leftBy, thirdBy, Replied, replyMost, bothMost};
 
 fn check_net(out: &mut [u8], net: &[u8]) -> usize
     requires { ⌜ replyMost 0 ≤ length (now out) ⌝ }
@@ -129,6 +129,16 @@ fn page(out: &mut [u8], net: &[u8], state: &mut [u8], log: &mut [u8], budget: us
     line::put_line_with_two(out, 0, b"page", &told, state, log)
 }
 
+fn balance(out: &mut [u8], net: &[u8], state: &[u8], weights: &[u8]) -> usize
+    requires { ⌜ replyMost 0 ≤ length (now out) ⌝ }
+    ensures { λ r. ⌜ r ≤ length (now (out .exit)) ⌝ }
+    ensures { λ r. ⌜ Replied (balanceReply (now (net .entry)) (now (state .entry)) (now (weights .entry))) (now (out .entry)) (now (out .exit)) r ⌝ }
+{
+    let mut told = [0u64; 3];
+    menu::menu_balance(net, state, weights, &mut told);
+    line::put_line(out, 0, b"balance", &told)
+}
+
 // The line of a request that asks for some call, at the buffer's front.
 pub fn answer(
     out: &mut [u8],
@@ -138,14 +148,14 @@ pub fn answer(
     started: u64,
     net: &[u8],
     state: &mut [u8],
-    log: &mut [u8],
+    third: &mut [u8],
 ) -> usize
-    requires { ⌜ bothMost (length (now state)) (length (now log)) ≤ length (now out) ⌝ }
+    requires { ⌜ bothMost (length (now state)) (length (now third)) ≤ length (now out) ⌝ }
     requires { ⌜ asks? kind first second started ≡ true ⌝ }
     ensures { λ r. ⌜ r ≤ length (now (out .exit)) ⌝ }
-    ensures { λ r. ⌜ Replied (replyTo kind first second started (now (net .entry)) (now (state .entry)) (now (log .entry))) (now (out .entry)) (now (out .exit)) r ⌝ }
-    ensures { λ _. ⌜ now (state .exit) ≡ leftBy kind first second started (now (net .entry)) (now (state .entry)) (now (log .entry)) ⌝ }
-    ensures { λ _. ⌜ now (log .exit) ≡ logBy kind first (now (net .entry)) (now (state .entry)) (now (log .entry)) ⌝ }
+    ensures { λ r. ⌜ Replied (replyTo kind first second started (now (net .entry)) (now (state .entry)) (now (third .entry))) (now (out .entry)) (now (out .exit)) r ⌝ }
+    ensures { λ _. ⌜ now (state .exit) ≡ leftBy kind first second started (now (net .entry)) (now (state .entry)) (now (third .entry)) ⌝ }
+    ensures { λ _. ⌜ now (third .exit) ≡ thirdBy kind first (now (net .entry)) (now (state .entry)) (now (third .entry)) ⌝ }
 {
     match kind {
         1 => check_net(out, net),
@@ -155,9 +165,10 @@ pub fn answer(
         5 => back(out, net, state, first as u8, second as u8, started),
         6 => degree(out, net, state, first),
         7 => owed(out, net, state),
-        8 => run(out, net, state, log, started),
-        9 => walk(out, net, state, log, first, started),
-        10 => step(out, log, first),
-        _ => page(out, net, state, log, first),
+        8 => run(out, net, state, third, started),
+        9 => walk(out, net, state, third, first, started),
+        10 => step(out, third, first),
+        11 => page(out, net, state, third, first),
+        _ => balance(out, net, state, third),
     }
 }

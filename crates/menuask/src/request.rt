@@ -4,13 +4,14 @@ use libc::STDIN_FILENO;
 ghost use mathlib.Core.Path.{_≡_};
 ghost use mathlib.Core.Bool.{true};
 ghost use Rattle.io.specs.Counts.{Counts};
-ghost use Rattle.menuask.specs.Requests.{within?, within-or-page?, numbersOf, takes-fact?, partsOf, asks?};
+ghost use Rattle.menuask.specs.Requests.{within?, no-step?, numbersOf, takes-fact?, partsOf, asks?};
 
-// What a request of some kind has, in this order: slices, so many numbers, and the number that says whether a start has happened in the step.
+// What a request of some kind has, in this order: slices, so many numbers, and the number that says whether a start has happened in the step. The
+// third slice is a log, the buffer for one, or weights.
 pub struct Parts {
     pub net: bool,
     pub state: bool,
-    pub log: bool,
+    pub third: bool,
     pub numbers: usize,
     pub started: bool,
 }
@@ -26,7 +27,7 @@ pub struct Request {
     pub fine: bool,
     pub net: usize,
     pub state: usize,
-    pub log: usize,
+    pub third: usize,
     pub first: usize,
     pub second: usize,
     pub started: usize,
@@ -42,14 +43,14 @@ fn within(kind: u8, least: u8, most: u8) -> bool
     kind <= most
 }
 
-// It is one of these, or asks for a page.
-fn within_or_page(kind: u8, least: u8, most: u8) -> bool
-    ensures { λ r. ⌜ r ≡ within-or-page? kind least most ⌝ }
+// It is one from `least` on, and asks for no step, which has a log alone.
+fn no_step(kind: u8, least: u8) -> bool
+    ensures { λ r. ⌜ r ≡ no-step? kind least ⌝ }
 {
-    if kind == 11 {
-        return true;
+    if kind == 10 {
+        return false;
     }
-    within(kind, least, most)
+    within(kind, least, 12)
 }
 
 // How many numbers a request of this kind has before the one that says whether a start has happened: two for an event, one for a transition, a
@@ -84,9 +85,9 @@ pub fn parts_of(kind: u8) -> Parts
     ensures { λ r. ⌜ r ≡ partsOf kind ⌝ }
 {
     Parts {
-        net: within_or_page(kind, 1, 9),
-        state: within_or_page(kind, 2, 9),
-        log: within(kind, 8, 11),
+        net: no_step(kind, 1),
+        state: no_step(kind, 2),
+        third: within(kind, 8, 12),
         numbers: numbers(kind),
         started: takes_fact(kind),
     }
@@ -105,7 +106,7 @@ pub fn asks(kind: u8, first: usize, second: usize, started: usize) -> bool
         }
         return second <= 255;
     }
-    within(kind, 1, 11)
+    within(kind, 1, 12)
 }
 
 // A number of four bytes, where one is asked for.
@@ -150,17 +151,17 @@ fn slice(fine: bool, wanted: bool, into: &mut [u8]) -> Part
 }
 
 // What follows the kind of a request: its slices and numbers.
-pub fn read(kind: u8, net: &mut [u8], state: &mut [u8], log: &mut [u8]) -> Request
+pub fn read(kind: u8, net: &mut [u8], state: &mut [u8], third: &mut [u8]) -> Request
     ensures { λ r. ⌜ Counts (r .net) (now (net .exit)) ⌝ }
     ensures { λ r. ⌜ Counts (r .state) (now (state .exit)) ⌝ }
-    ensures { λ r. ⌜ Counts (r .log) (now (log .exit)) ⌝ }
+    ensures { λ r. ⌜ Counts (r .third) (now (third .exit)) ⌝ }
     ensures { λ r. ⌜ (r .fine ≡ true → asks? kind (r .first) (r .second) (r .started) ≡ true) ⌝ }
 {
     let has = parts_of(kind);
     let nets = slice(true, has.net, net);
     let states = slice(nets.fine, has.state, state);
-    let logs = slice(states.fine, has.log, log);
-    let first = number(logs.fine, 1 <= has.numbers);
+    let thirds = slice(states.fine, has.third, third);
+    let first = number(thirds.fine, 1 <= has.numbers);
     let second = number(first.fine, 2 <= has.numbers);
     let started = number(second.fine, has.started);
     let fine = started.fine && asks(kind, first.value, second.value, started.value);
@@ -168,7 +169,7 @@ pub fn read(kind: u8, net: &mut [u8], state: &mut [u8], log: &mut [u8]) -> Reque
         fine,
         net: nets.value,
         state: states.value,
-        log: logs.value,
+        third: thirds.value,
         first: first.value,
         second: second.value,
         started: started.value,

@@ -7,11 +7,11 @@ use Rattle.menuask.proofs.serve_all.Statement.{statement}
 use Rattle.menuask.proofs.serve_all.Tie as tie
 
 abbrev Inv-loop : tie.InvT-loop
-Inv-loop out₀ net₀ state₀ log₀ goes-on₀ turns₀ out net state log goes-on turns =
-    (length out ≡ length out₀) × (length net ≡ length net₀) × (length state ≡ length state₀) × (length log ≡ length log₀)
+Inv-loop out₀ net₀ state₀ third₀ goes-on₀ turns₀ out net state third goes-on turns =
+    (length out ≡ length out₀) × (length net ≡ length net₀) × (length state ≡ length state₀) × (length third ≡ length third₀)
 
 abbrev μ-loop : tie.MeasureT-loop
-μ-loop out₀ net₀ state₀ log₀ goes-on₀ turns₀ out net state log goes-on turns = turns
+μ-loop out₀ net₀ state₀ third₀ goes-on₀ turns₀ out net state third goes-on turns = turns
 
 loop-holds : tie.Need-loop-holds Inv-loop μ-loop
 loop-holds c = (refl, refl, refl, refl)

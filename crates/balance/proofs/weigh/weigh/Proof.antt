@@ -9,7 +9,6 @@ use Rattle.forms.specs.Stored.{netOf}
 use Rattle.forms.specs.Frame.{Framed}
 use Rattle.forms.proofs.States.{places-small}
 use Rattle.balance.proofs.Answers.{not-by, by-weights}
-use borrow.Author.Needs.{needs}
 use Rattle.balance.proofs.weigh.weigh.Statement.{statement}
 use Rattle.balance.proofs.weigh.weigh.Tie as tie
 

@@ -5,11 +5,11 @@ use borrow.Author.Needs.{needs}
 use Rattle.menuask.proofs.request.parts_of.Statement.{statement}
 use Rattle.menuask.proofs.request.parts_of.Tie as tie
 
-within-or-page-requires : tie.Need-within-or-page-requires
-within-or-page-requires c κs = search needs
+no-step-requires : tie.Need-no-step-requires
+no-step-requires c κs = search needs
 
-within-or-page-requires-2 : tie.Need-within-or-page-requires-2
-within-or-page-requires-2 c κs = search needs
+no-step-requires-2 : tie.Need-no-step-requires-2
+no-step-requires-2 c κs = search needs
 
 within-requires : tie.Need-within-requires
 within-requires c κs = search needs
@@ -23,9 +23,9 @@ takes-fact-requires c κs = search needs
 returns : tie.Need-returns
 returns c =
     let three = c .before .before in
-    rw (three .before .before .within-or-page .ensures, three .before .within-or-page2 .ensures, three .within .ensures, c .before .numbers .ensures, c .takes-fact .ensures) refl
+    rw (three .before .before .no-step .ensures, three .before .no-step2 .ensures, three .within .ensures, c .before .numbers .ensures, c .takes-fact .ensures) refl
 
 pub parts-of-spec : {M : Type 1} → statement M
 parts-of-spec =
     tie.close
-    (tie.spec within-or-page-requires within-or-page-requires-2 within-requires numbers-requires takes-fact-requires returns)
+    (tie.spec no-step-requires no-step-requires-2 within-requires numbers-requires takes-fact-requires returns)
