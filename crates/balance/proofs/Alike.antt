@@ -27,7 +27,7 @@ use Rattle.runner.specs.Promised.{front, PagePromise}
 use Rattle.runner.proofs.OnBytes.{on-bytes as pages}
 use Rattle.balance.specs.declared.call.BalanceTold.{BalanceTold}
 use Rattle.balance.specs.Weights.{Balanced, total}
-use Rattle.balance.specs.Told.{weightsIn, balanceOf, noBalance, weighingBy, balanceTold}
+use Rattle.balance.specs.Told.{weightAt, balanceOf, noBalance, checkedWeighing, balanceTold}
 use Rattle.balance.specs.Promised.{saysBalance, Used, ToldAlike}
 use Rattle.balance.proofs.Kept.{moves-keep, leads-keep, walked-keep}
 use Rattle.balance.proofs.Answers.{Comes, comes, is-31, is-30, is-0, is-total-told}
@@ -35,14 +35,14 @@ use Rattle.balance.proofs.Answers.{Comes, comes, is-31, is-30, is-0, is
 -- OF TWO STATES WITH ONE TOTAL, where the net balances
 
 same-answer : (N : Net) (S S′ : State) (weights : List ℕ)
-    → (Balanced N (weightsIn weights) → total N (weightsIn weights) S′ ≡ total N (weightsIn weights) S)
-    → balanceOf (weighingBy N weights S′) ≡ balanceOf (weighingBy N weights S)
+    → (Balanced N (weightAt weights) → total N (weightAt weights) S′ ≡ total N (weightAt weights) S)
+    → balanceOf (checkedWeighing N weights S′) ≡ balanceOf (checkedWeighing N weights S)
 same-answer N S S′ weights kept = go (comes N weights S)
   where
-    there : Comes N weights S′ (balanceOf (weighingBy N weights S′))
+    there : Comes N weights S′ (balanceOf (checkedWeighing N weights S′))
     there = comes N weights S′
 
-    go : Comes N weights S (balanceOf (weighingBy N weights S)) → balanceOf (weighingBy N weights S′) ≡ balanceOf (weighingBy N weights S)
+    go : Comes N weights S (balanceOf (checkedWeighing N weights S)) → balanceOf (checkedWeighing N weights S′) ≡ balanceOf (checkedWeighing N weights S)
     go (Comes.no-weights off e) = is-31 there .1 off ∙ sym e
     go (Comes.unbalanced is t l e) = is-30 there t .1 (is, l) ∙ sym e
     go (Comes.balanced is even e) =
@@ -68,7 +68,7 @@ kept-alike net b weights (Keeps.unchanged e) = ap (λ (x : List ℕ). balanceTol
 kept-alike net b weights (Keeps.moved S′ left same) =
     rw (left .passes, left .reads)
     (ap (λ (x : BalanceTold). ifFit (examineState net b) x noBalance)
-    (same-answer (netOf net) (stored net b) S′ weights (same (weightsIn weights))))
+    (same-answer (netOf net) (stored net b) S′ weights (same (weightAt weights))))
 
 module _ (net b : List ℕ) (small : Bytes b) where
   abbrev N : Net
@@ -152,7 +152,7 @@ module _ (net : List ℕ) (bytes : Bytes net) where
   abbrev by-page : (b : List ℕ) → Bytes b → (log : List ℕ) (budget : ℕ) → Keeps net b (stateLeft net b log budget)
   by-page b small log budget = page-keeps net b small log budget (pages .promised net b log budget bytes small)
 
-  used-alike : (weights : List ℕ) {b b′ : List ℕ} → Bytes b → Used net b b′ → balanceTold net b′ weights ≡ balanceTold net b weights
+  pub used-alike : (weights : List ℕ) {b b′ : List ℕ} → Bytes b → Used net b b′ → balanceTold net b′ weights ≡ balanceTold net b weights
   used-alike weights small Used.unused = refl
   used-alike weights {b} small (Used.event first second started rest) =
       let k = by-event b small first second started in
@@ -169,13 +169,3 @@ module _ (net : List ℕ) (bytes : Bytes net) where
   used-alike weights {b} small (Used.page log budget rest) =
       let k = by-page b small log budget in
       used-alike weights (kept-bytes net b small k) rest ∙ kept-alike net b weights k
-
-  pub told-alike : (b weights : List ℕ) → Bytes b → ToldAlike net b weights (balanceTold net b weights)
-  told-alike b weights small = record {
-    event = λ first second started. kept-alike net b weights (by-event b small first second started);
-    back = λ first second started. kept-alike net b weights (by-back b small first second started);
-    run = λ log started. kept-alike net b weights (by-run b small log started);
-    walk = λ log n started. kept-alike net b weights (by-walk b small log n started);
-    page = λ log budget. kept-alike net b weights (by-page b small log budget);
-    any-order = λ b′ g. used-alike weights small g;
-  }

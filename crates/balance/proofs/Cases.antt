@@ -18,12 +18,12 @@ use Rattle.forms.specs.Logs.{is-log?, checkLog}
 use Rattle.forms.specs.Written.{written}
 use Rattle.engine.specs.Examined.{examineNet, examineState, examineLog}
 use Rattle.engine.specs.Calls.{eventLeft, backLeft, runLeft}
-use Rattle.balance.specs.Weights.{weighed, firstUneven, running, firingsWeight, total}
-use Rattle.balance.specs.Told.{weighing, weighingBy, balanceTold}
+use Rattle.balance.specs.Weights.{weighed, firstUnbalanced, running, firingsWeight, total}
+use Rattle.balance.specs.Told.{weighing, checkedWeighing, balanceTold}
 use Rattle.balance.specs.Cases.{Totals}
 
 pub totals : Totals
-unfolding balanceTold weighingBy weighing total firingsWeight running firstUneven weighed sum
+unfolding balanceTold checkedWeighing weighing total firingsWeight running firstUnbalanced weighed sum
     runLeft eventLeft backLeft examineNet examineState examineLog
     checkNet net-head? checkRow some-weight? checkState has-head? none-past? checkLog is-log? begins? checksInTurn
     netOf stateOf eventsIn word word32 blank? setWord putWords putRows rowAt countAt stateLength written
@@ -36,12 +36,14 @@ totals = record {
   older-firing = refl;
   row = refl;
   every-age = refl;
+  own-weights = refl;
   two-bytes = refl;
+  past-32-bits = refl;
   nothing = refl;
   short = refl;
   long = refl;
-  both-uneven = refl;
-  second-uneven = refl;
+  both-unbalanced = refl;
+  second-unbalanced = refl;
   no-net = refl;
   no-state = refl;
   overdue = refl;

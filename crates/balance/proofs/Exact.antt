@@ -1,11 +1,10 @@
--- The test is exact, since of every transition some lawful state ends a firing; and no total passes 60 bits.
+-- A transition that is not balanced changes the total of some lawful state, in which a firing of it ends; and no sum passes 60 bits.
 -- Assumes nothing.
 use mathlib.Core.Path.{_≡_, ap, _∙_}
 use mathlib.Core.Bool.{false}
 use Prim.Native.Nat.{ℕ, _+_, _*_, _^_, _<_, _≤_}
 use native.Mathlib.Nat.{mul-le-mul}
 use native.Mathlib.Omega.{arith}
-use Rattle.model.specs.declared.event.Event.the-variants as event
 use Rattle.model.specs.Tab.{sum, one}
 use Rattle.model.specs.Limits.{Held}
 use Rattle.model.specs.Net.{Net, State, Proper, Lawful, width, tokens, count, build}
@@ -14,7 +13,7 @@ use Rattle.model.proofs.Tab.{one-cases, one-here, one-off}
 use Rattle.model.proofs.Sums.{sum-le}
 use Rattle.model.proofs.Shape.{lfd-fits, build-shaped, tokens-build, count-build}
 use Rattle.balance.specs.Weights.{weighed, weightIn, running, firingsWeight, total}
-use Rattle.balance.specs.Demands.{KeepsOnlyIf, FitsWord}
+use Rattle.balance.specs.Demands.{ChangesUnlessBalanced, Small, NoOverflow}
 use Rattle.balance.proofs.Kept.{accounted}
 
 -- ONE FIRING THAT ENDS
@@ -53,15 +52,16 @@ module _ (N : Net) (t : ℕ) (known : t < N .transitions) where
         shaped = build-shaped N (N .gives t) (λ u k. 0);
       }
 
-pub keeps-only-if : (N : Net) (w : ℕ → ℕ) → KeepsOnlyIf N w
-keeps-only-if N w proper fits keeps t known =
+pub changes : (N : Net) (w : ℕ → ℕ) → ChangesUnlessBalanced N w
+changes N w proper fits t known off =
     let m = ends N t known proper (λ p l. fits t p known l) in
-    let e = event.End t (record { 0 = N .lfd t }) in
-    omega (
-      arith,
-      accounted N w .at-end false (before N t known) t (N .lfd t) (after N t known) m,
-      keeps false (before N t known) e (after N t known) (before-lawful N t known) m,
-    )
+    record {
+      before = before N t known;
+      after = after N t known;
+      lawful = before-lawful N t known;
+      ends = m;
+      other = λ same. off (omega (arith, accounted N w .at-end false (before N t known) t (N .lfd t) (after N t known) m));
+    }
 
 -- BOUNDS: a word is at most 65,535, a byte 255, and a width that fits its byte 255
 
@@ -79,14 +79,30 @@ firings-bound D P many arcs d p m a = mul-le-mul {n₂ = 16711425} {m₂ = 10695
 pub total-bound : (P T marks runs : ℕ) → P ≤ 64 → T ≤ 64 → marks ≤ P * 4294836225 → runs ≤ T * 17873390433960000 → marks + runs < 2 ^ 60
 total-bound P T marks runs p t m r = omega arith
 
-pub fits-word : (N : Net) (w : ℕ → ℕ) → FitsWord N w
-unfolding total firingsWeight running weighed
-fits-word N w small S s =
-    total-bound (N .places) (N .transitions) _ _ (small .few-places) (small .few-transitions)
-    (sum-le (N .places) (λ p. w p * tokens S p) 4294836225
-    (λ p l. word-by-word (w p) (tokens S p) (omega (arith, small .light p l)) (omega (arith, s .tokens-fit p l))))
-    (sum-le (N .transitions) (λ t. sum (width N) (count S t) * weightIn N w t) 17873390433960000
-    (λ t l. firings-bound (width N) (N .places) _ _ (small .narrow) (small .few-places)
-    (sum-le (width N) (count S t) 65535 (λ j d. s .counts-fit t j l d))
-    (sum-le (N .places) (λ p. w p * N .takes t p) 16711425
-    (λ p k. word-by-byte (w p) (N .takes t p) (omega (arith, small .light p k)) (omega (arith, small .thin-arcs t p l k))))))
+module _ (N : Net) (w : ℕ → ℕ) (small : Small N w) where
+  arcs-bound : (arcs : ℕ → ℕ) → ((p : ℕ) → p < N .places → arcs p < 256) → weighed (N .places) w arcs ≤ N .places * 16711425
+  unfolding weighed
+  arcs-bound arcs thin =
+      sum-le (N .places) (λ p. w p * arcs p) 16711425 (λ p l. word-by-byte (w p) (arcs p) (small .weights-words p l) (thin p l))
+
+  module _ (S : State) (s : Lawful N S) where
+    marks-bound : weighed (N .places) w (tokens S) ≤ N .places * 4294836225
+    unfolding weighed
+    marks-bound =
+        sum-le (N .places) (λ p. w p * tokens S p) 4294836225
+        (λ p l. word-by-word (w p) (tokens S p) (small .weights-words p l) (omega (arith, s .tokens-fit p l)))
+
+    runs-bound : sum (N .transitions) (firingsWeight N w S) ≤ N .transitions * 17873390433960000
+    unfolding firingsWeight running
+    runs-bound =
+        sum-le (N .transitions) (λ t. sum (width N) (count S t) * weightIn N w t) 17873390433960000
+        (λ t l. firings-bound (width N) (N .places) _ _ (omega (arith, small .narrow)) (small .few-places)
+        (sum-le (width N) (count S t) 65535 (λ j d. s .counts-fit t j l d)) (arcs-bound (N .takes t) (λ p k. small .inputs-bytes t p l k)))
+
+    pub no-overflow : NoOverflow N w S
+    unfolding total
+    no-overflow = record {
+      taken-in = λ t l. omega (arith, arcs-bound (N .takes t) (λ p k. small .inputs-bytes t p l k), small .few-places);
+      put-out = λ t l. omega (arith, arcs-bound (N .gives t) (λ p k. small .outputs-bytes t p l k), small .few-places);
+      in-all = total-bound (N .places) (N .transitions) _ _ (small .few-places) (small .few-transitions) marks-bound runs-bound;
+    }

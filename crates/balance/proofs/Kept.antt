@@ -113,7 +113,7 @@ module _ (N : Net) (w : ℕ → ℕ) where
 
     pub total-kept : TotalKept N w
     total-kept = record {
-      events = moves-keep;
+      after-event = moves-keep;
       any-order = λ S S′ s g. wanders-keep s g;
       after-run = λ started S es s. leads-keep s (run-ran N started S es .led);
       after-walk = λ started S es n s. walked-keep started S es n (walk N started S es n) (walk-walked N started S s es n);

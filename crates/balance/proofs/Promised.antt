@@ -2,14 +2,13 @@
 -- Assumes nothing.
 use mathlib.Core.Path.{_≡_, refl, sym, ap, _∙_}
 use mathlib.Core.List.{List}
-use Prim.Native.Nat.{ℕ, _/_, _*_, _^_, _<_, _≤_}
+use Prim.Native.Nat.{ℕ, _*_}
 use native.Mathlib.Omega.{arith}
 use Rattle.model.specs.declared.net.Net.{Net as Shape}
-use Rattle.model.specs.Net.{tokens}
 use Rattle.forms.specs.declared.fault.Fault.{Fault}
 use Rattle.forms.specs.Checked.{numberOfFault, indexOfFault}
 use Rattle.forms.specs.Word.{Bytes, byte}
-use Rattle.forms.specs.Places.{inputAt}
+use Rattle.forms.specs.Places.{inputAt, outputAt}
 use Rattle.forms.specs.Stored.{netOf, stored}
 use Rattle.forms.specs.Frame.{Framed}
 use Rattle.forms.proofs.WordLaws.{word-fits}
@@ -25,17 +24,17 @@ use Rattle.engine.proofs.Promised.{Adds, adds, of-state}
 use Rattle.balance.specs.declared.call.BalanceTold.{BalanceTold}
 use Rattle.balance.specs.Weights.{total}
 use Rattle.balance.specs.Demands.{Small}
-use Rattle.balance.specs.Told.{weightsIn, balanceOf, weighingBy, balanceTold}
+use Rattle.balance.specs.Told.{weightAt, balanceOf, checkedWeighing, balanceTold}
 use Rattle.balance.specs.Promised.{saysBalance, Used, BalanceGiven, BalancePromise}
 use Rattle.balance.proofs.Kept.{place-holds}
-use Rattle.balance.proofs.Exact.{fits-word}
+use Rattle.balance.proofs.Exact.{no-overflow}
 use Rattle.balance.proofs.Answers.{Comes, comes, is-31, is-30, is-0, is-total-told}
 use Rattle.balance.proofs.Turns.{narrow}
-use Rattle.balance.proofs.Alike.{told-alike}
+use Rattle.balance.proofs.Alike.{used-alike}
 
 -- behind the checks
 told-is : (net b weights : List ℕ) {shape : Shape} → examineState net b ≡ examined.Fit shape
-    → balanceTold net b weights ≡ balanceOf (weighingBy (netOf net) weights (stored net b))
+    → balanceTold net b weights ≡ balanceOf (checkedWeighing (netOf net) weights (stored net b))
 unfolding balanceTold
 told-is net b weights fit = rw fit
 
@@ -48,7 +47,7 @@ fault-is net b weights why e = rw e
 
 -- the weights of a checked net are small enough
 small-enough : (net : List ℕ) (shape : Shape) (b : List ℕ) → Framed net shape b → Bytes net → (weights : List ℕ) → Bytes weights
-    → Small (netOf net) (weightsIn weights)
+    → Small (netOf net) (weightAt weights)
 unfolding netOf
 small-enough net shape b f bytes weights few =
     let h = f .net-framed .has-shape in
@@ -56,21 +55,10 @@ small-enough net shape b f bytes weights few =
       few-places = omega (arith, places-small net shape (f .net-framed), h .places-are);
       few-transitions = omega (arith, transitions-small net shape (f .net-framed), h .transitions-are);
       narrow = omega (arith, narrow net shape b f, h .width-is);
-      thin-arcs = λ t p l k. omega (arith, bytes (inputAt (byte net 5) t p));
-      light = λ p l. omega (arith, word-fits weights (2 * p) few);
+      inputs-bytes = λ t p l k. bytes (inputAt (byte net 5) t p);
+      outputs-bytes = λ t p l k. bytes (outputAt (byte net 5) t p);
+      weights-words = λ p l. word-fits weights (2 * p) few;
     }
-
--- what is told fits
-told-fits : (net b weights : List ℕ) (shape : Shape) → Framed net shape b → Bytes net → Bytes b → Bytes weights
-    → {r : BalanceTold} → Comes (netOf net) weights (stored net b) r → r .total < 2 ^ 60
-told-fits net b weights shape f bytes small few {r} (Comes.no-weights off e) =
-    let none : r .total ≡ 0 = ap (λ (x : BalanceTold). x .total) e in omega arith
-told-fits net b weights shape f bytes small few {r} (Comes.unbalanced is t l e) =
-    let none : r .total ≡ 0 = ap (λ (x : BalanceTold). x .total) e in omega arith
-told-fits net b weights shape f bytes small few {r} (Comes.balanced is even e) =
-    let w = weightsIn weights in
-    let sum : r .total ≡ total (netOf net) (weightsIn weights) (stored net b) = ap (λ (x : BalanceTold). x .total) e in
-    rw sum (fits-word (netOf net) w (small-enough net shape b f bytes weights few) (stored net b) (lawful net shape b f small))
 
 module _ (net b weights : List ℕ) (bytes : Bytes net) (small : Bytes b) (few : Bytes weights) where
   given : Passes (examineState net b) → BalanceGiven net b weights (balanceTold net b weights)
@@ -79,32 +67,33 @@ module _ (net b weights : List ℕ) (bytes : Bytes net) (small : Bytes b) (few :
       let c : Comes (netOf net) weights (stored net b) (balanceTold net b weights) =
       rw (told-is net b weights fit) (comes (netOf net) weights (stored net b)) in
       record {
+        weights-bytes = few;
         no-weights = is-31 c;
         unbalanced = is-30 c;
         balanced = is-0 c;
         total-is = is-total-told c;
-        fits-word = told-fits net b weights shape f bytes small few c;
-        alike = told-alike net bytes b weights small;
-        no-place-over = over;
+        no-overflow = no-overflow (netOf net) (weightAt weights) (small-enough net shape b f bytes weights few) (stored net b)
+            (lawful net shape b f small);
+        alike = λ b′ used. used-alike net bytes weights small used;
+        total-kept = kept;
+        no-place-over = λ z b′ used p l pos. rw (← kept z b′ used) (place-holds (netOf net) (weightAt weights) (stored net b′) p l pos);
       }
     where
-      over : balanceTold net b weights .number ≡ 0 → (b′ : List ℕ) → Used net b b′ → (p : ℕ) → p < netOf net .places
-          → 0 < weightsIn weights p → tokens (stored net b′) p ≤ balanceTold net b weights .total / weightsIn weights p
-      over z b′ used p l pos = go (examineState net b′) refl
+      kept : balanceTold net b weights .number ≡ 0 → (b′ : List ℕ) → Used net b b′
+          → total (netOf net) (weightAt weights) (stored net b′) ≡ balanceTold net b weights .total
+      kept z b′ used = go (examineState net b′) refl
         where
           same : balanceTold net b′ weights ≡ balanceTold net b weights
-          same = told-alike net bytes b weights small .any-order b′ used
+          same = used-alike net bytes weights small used
 
-          -- what the call leaves of a state that was fit is fit
-          go : (x : Examined) → examineState net b′ ≡ x → tokens (stored net b′) p ≤ balanceTold net b weights .total / weightsIn weights p
+          -- what the calls leave of a state that was fit is fit
+          go : (x : Examined) → examineState net b′ ≡ x → total (netOf net) (weightAt weights) (stored net b′) ≡ balanceTold net b weights .total
           go (examined.Unfit why) x =
               fault-number why (ap (λ (r : BalanceTold). r .number) (sym (fault-is net b′ weights why x) ∙ same) ∙ z)
           go (examined.Fit s) x =
               let c = comes (netOf net) weights (stored net b′) in
               let told = sym (told-is net b′ weights x) ∙ same in
-              let sum : balanceTold net b weights .total ≡ total (netOf net) (weightsIn weights) (stored net b′) =
-              ap (λ (r : BalanceTold). r .total) (sym told ∙ is-total-told c (ap (λ (r : BalanceTold). r .number) told ∙ z)) in
-              rw sum (place-holds (netOf net) (weightsIn weights) (stored net b′) p l pos)
+              ap (λ (r : BalanceTold). r .total) (sym (is-total-told c (ap (λ (r : BalanceTold). r .number) told ∙ z)) ∙ told)
 
   pub balance-promised : Adds (BalancePromise net b weights) (balanceTold net b weights)
   balance-promised = adds (BalancePromise net b weights) (balanceTold net b weights) (of-state net bytes b small (fault-is net b weights) given)

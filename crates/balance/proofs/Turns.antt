@@ -24,10 +24,10 @@ use Rattle.forms.proofs.States.{places-same, width-small, counts-inside}
 use Rattle.forms.proofs.Inside.{known-model, mark-stands}
 use Rattle.owed.proofs.ModelTests.{lowest-found, lowest-end}
 use Rattle.balance.specs.declared.weigh.Weighing.the-variants as comes-to
-use Rattle.balance.specs.Weights.{weighed, weightIn, weightOut, uneven?, firstUneven, running, firingsWeight, total}
+use Rattle.balance.specs.Weights.{weighed, weightIn, weightOut, unbalanced?, firstUnbalanced, running, firingsWeight, total}
 use Rattle.balance.specs.Told.{weighing}
 use Rattle.balance.proofs.Kept.{weighed-same}
-use Rattle.balance.proofs.Answers.{is-uneven, is-total}
+use Rattle.balance.proofs.Answers.{is-unbalanced, is-total}
 
 -- TURNS
 
@@ -81,7 +81,7 @@ module _ (net : List ℕ) (shape : Shape) (b : List ℕ) (f : Framed net shape b
 -- the loop over the transitions: so far none is unbalanced, and so much the marking and their firings weigh
 pub record Weighs (net : List ℕ) (shape : Shape) (b : List ℕ) (w : ℕ → ℕ) (t so-far : ℕ) : Type 0 where
   pub passed : t ≤ shape .transitions
-  pub even : all t (λ k. not (uneven? (netOf net) w k)) ≡ true
+  pub even : all t (λ k. not (unbalanced? (netOf net) w k)) ≡ true
   pub weight : so-far ≡ weighed (shape .places) w (λ p. word b (markAt p)) + sum t (firingsWeight (netOf net) w (stored net b))
   pub bounded : so-far ≤ shape .places * 4294836225 + t * 17873390433960000
 
@@ -104,14 +104,14 @@ module _ (net : List ℕ) (shape : Shape) (b : List ℕ) (f : Framed net shape b
   -- THE LOOP
 
   abbrev even? : ℕ → Bool
-  even? k = not (uneven? (netOf net) w k)
+  even? k = not (unbalanced? (netOf net) w k)
 
-  none-first : (t : ℕ) → shape .transitions ≤ t → t ≤ shape .transitions → all t (λ k. not (uneven? (netOf net) w k)) ≡ true
-      → netOf net .transitions ≡ firstUneven (netOf net) w
-  unfolding firstUneven
+  none-first : (t : ℕ) → shape .transitions ≤ t → t ≤ shape .transitions → all t (λ k. not (unbalanced? (netOf net) w k)) ≡ true
+      → netOf net .transitions ≡ firstUnbalanced (netOf net) w
+  unfolding firstUnbalanced
   none-first t l u none =
       let same = f .net-framed .has-shape .transitions-are in
-      lowest-end (uneven? (netOf net) w) (netOf net .transitions) t (omega arith) (omega arith) none
+      lowest-end (unbalanced? (netOf net) w) (netOf net .transitions) t (omega arith) (omega arith) none
 
   pub weighs-begin : (marks : ℕ) → marks ≡ weighed (shape .places) w (λ p. word b (markAt p)) → marks ≤ shape .places * 4294836225
       → Weighs net shape b w 0 marks
@@ -134,14 +134,14 @@ module _ (net : List ℕ) (shape : Shape) (b : List ℕ) (f : Framed net shape b
           bounded = omega (arith, is .bounded);
         }
 
-    pub uneven-found : ¬ (taken ≡ given) → comes-to.Unbalanced t ≡ weighing (netOf net) w (stored net b)
-    unfolding firstUneven
-    uneven-found d =
+    pub unbalanced-found : ¬ (taken ≡ given) → comes-to.Unbalanced t ≡ weighing (netOf net) w (stored net b)
+    unfolding firstUnbalanced
+    unbalanced-found d =
         let same = f .net-framed .has-shape .transitions-are in
-        let first : t ≡ firstUneven (netOf net) w =
-        lowest-found (uneven? (netOf net) w) (netOf net .transitions) t (omega arith)
+        let first : t ≡ firstUnbalanced (netOf net) w =
+        lowest-found (unbalanced? (netOf net) w) (netOf net .transitions) t (omega arith)
         (rw (ne-eqb (weightIn (netOf net) w t) (weightOut (netOf net) w t) (λ e. d (in-is ∙ e ∙ sym out-is)))) (is .even) in
-        ap comes-to.Unbalanced first ∙ sym (is-uneven (netOf net) w (stored net b) (omega arith))
+        ap comes-to.Unbalanced first ∙ sym (is-unbalanced (netOf net) w (stored net b) (omega arith))
 
   pub weighs-all : (t so-far : ℕ) → Weighs net shape b w t so-far → shape .transitions ≤ t
       → comes-to.Total so-far ≡ weighing (netOf net) w (stored net b)
@@ -149,6 +149,6 @@ module _ (net : List ℕ) (shape : Shape) (b : List ℕ) (f : Framed net shape b
   weighs-all t so-far is l =
       let same = f .net-framed .has-shape .transitions-are in
       let ends : t ≡ netOf net .transitions = omega (arith, is .passed) in
-      let none : netOf net .transitions ≡ firstUneven (netOf net) w = none-first t (omega arith) (is .passed) (is .even) in
+      let none : netOf net .transitions ≡ firstUnbalanced (netOf net) w = none-first t (omega arith) (is .passed) (is .even) in
       let sums : so-far ≡ total (netOf net) w (stored net b) = is .weight ∙ rw (marking-is, ends) in
       ap comes-to.Total sums ∙ sym (is-total (netOf net) w (stored net b) (omega arith))

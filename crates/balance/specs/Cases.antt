@@ -9,10 +9,10 @@ use Rattle.forms.specs.Stored.{netOf, stored}
 use Rattle.forms.specs.Cases.{rowNet, rowState, rowLog}
 use Rattle.engine.specs.Calls.{eventLeft, backLeft, runLeft}
 use Rattle.balance.specs.Weights.{total}
-use Rattle.balance.specs.Told.{weightsIn, balanceTold}
+use Rattle.balance.specs.Told.{weightAt, balanceTold}
 use Rattle.balance.specs.Promised.{saysBalance}
 
--- one for each place, and one that gives place 1 twice as much
+-- weight 1 at each place; and weight 2 at place 1
 abbrev pub ones : List ℕ
 ones = 0x00 ∷ 0x01 ∷ 0x00 ∷ 0x01 ∷ 0x00 ∷ 0x01 ∷ []
 
@@ -34,6 +34,14 @@ ended = eventLeft rowNet aged 0x41 0x01 false
 abbrev pub busy : List ℕ
 busy = set (set (set (set (set rowState 9 3) 13 4) 15 2) 21 5) 23 7
 
+-- 65,535 tokens in place 0, and as many firings of transition 0 of age 0
+abbrev pub full : List ℕ
+full = set (set (set (set rowState 8 255) 9 255) 14 255) 15 255
+
+-- transition 0 gives three tokens to place 1, and transition 1 takes nine from it
+abbrev pub heavyArcs : List ℕ
+heavyArcs = set (set rowNet 19 3) 24 9
+
 pub record Totals : Type 0 where
   -- the one token, the firing that has taken it in (of age 0, and of age 1), and the row that it became
   pub token : balanceTold rowNet rowState ones ≡ saysBalance 0 0 1
@@ -42,20 +50,24 @@ pub record Totals : Type 0 where
   pub row : balanceTold rowNet (runLeft rowNet rowState rowLog false) ones ≡ saysBalance 0 0 1
   -- 3 + 4 + 2 + 5 + 7, each of weight 10
   pub every-age : balanceTold rowNet busy (0x00 ∷ 0x0a ∷ 0x00 ∷ 0x0a ∷ 0x00 ∷ 0x0a ∷ []) ≡ saysBalance 0 0 210
+  -- 18 + 2 + 72 in the places, 7 firings of transition 0 at 6 and 7 of transition 1 at 18: transition 0 gives three tokens, and 1 takes nine
+  pub own-weights : balanceTold heavyArcs (set busy 11 1) (0x00 ∷ 0x06 ∷ 0x00 ∷ 0x02 ∷ 0x00 ∷ 0x12 ∷ []) ≡ saysBalance 0 0 260
   -- 257 tokens of weight 259
   pub two-bytes : balanceTold rowNet (set rowState 8 1) (0x01 ∷ 0x03 ∷ 0x01 ∷ 0x03 ∷ 0x01 ∷ 0x03 ∷ []) ≡ saysBalance 0 0 66563
+  -- 65,535 tokens, and as many firings, of weight 65,535
+  pub past-32-bits : balanceTold rowNet full (0xff ∷ 0xff ∷ 0xff ∷ 0xff ∷ 0xff ∷ 0xff ∷ []) ≡ saysBalance 0 0 8589672450
   -- weights of 0 balance every net, and weigh nothing
   pub nothing : balanceTold rowNet busy (0x00 ∷ 0x00 ∷ 0x00 ∷ 0x00 ∷ 0x00 ∷ 0x00 ∷ []) ≡ saysBalance 0 0 0
   -- 31 comes before 30, and of two transitions the lower is told
   pub short : balanceTold rowNet rowState (0x00 ∷ 0x01 ∷ 0x00 ∷ 0x02 ∷ []) ≡ saysBalance 31 0 0
   pub long : balanceTold rowNet rowState (0x00 ∷ heavyMiddle) ≡ saysBalance 31 0 0
-  pub both-uneven : balanceTold rowNet rowState heavyMiddle ≡ saysBalance 30 0 0
-  pub second-uneven : balanceTold rowNet rowState (0x00 ∷ 0x02 ∷ 0x00 ∷ 0x02 ∷ 0x00 ∷ 0x01 ∷ []) ≡ saysBalance 30 1 0
+  pub both-unbalanced : balanceTold rowNet rowState heavyMiddle ≡ saysBalance 30 0 0
+  pub second-unbalanced : balanceTold rowNet rowState (0x00 ∷ 0x02 ∷ 0x00 ∷ 0x02 ∷ 0x00 ∷ 0x01 ∷ []) ≡ saysBalance 30 1 0
   -- behind the faults of net and state, which come before 31
   pub no-net : balanceTold [] rowState [] ≡ saysBalance 1 0 0
   pub no-state : balanceTold rowNet [] [] ≡ saysBalance 8 0 0
   pub overdue : balanceTold rowNet (set rowState 25 1) [] ≡ saysBalance 9 1 0
-  -- where a net does not balance, a total that changes: it puts out 2 for 1; and it is 1 again where the end is taken back
-  pub before-the-end : total (netOf rowNet) (weightsIn heavyMiddle) (stored rowNet aged) ≡ 1
-  pub after-the-end : total (netOf rowNet) (weightsIn heavyMiddle) (stored rowNet ended) ≡ 2
-  pub taken-back : total (netOf rowNet) (weightsIn heavyMiddle) (stored rowNet (backLeft rowNet ended 0x41 0x01 false)) ≡ 1
+  -- where a net does not balance, a total that changes: transition 0 puts out 2 for 1. Where the end is taken back it is 1 again
+  pub before-the-end : total (netOf rowNet) (weightAt heavyMiddle) (stored rowNet aged) ≡ 1
+  pub after-the-end : total (netOf rowNet) (weightAt heavyMiddle) (stored rowNet ended) ≡ 2
+  pub taken-back : total (netOf rowNet) (weightAt heavyMiddle) (stored rowNet (backLeft rowNet ended 0x41 0x01 false)) ≡ 1

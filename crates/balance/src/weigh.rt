@@ -1,5 +1,5 @@
-// Sums over the bytes of a checked net and state. Each contract has the bound that keeps the sums above it within 64 bits, for every width
-// that fits its byte: durations up to 254.
+// Sums over the bytes of a checked net and state. The contract of each sum has a bound that keeps those above it within 64 bits, for every width
+// that fits its byte: durations up to 254. The bounds are multiples of 65535 * 255, 65535 * 65535 and 65535.
 use forms::places;
 use forms::words;
 use model::age::Age;
@@ -13,9 +13,9 @@ ghost use Rattle.forms.specs.Places.{markAt};
 ghost use Rattle.forms.specs.Stored.{netOf, stored};
 ghost use Rattle.forms.specs.Frame.{Framed};
 ghost use Rattle.balance.specs.Weights.{weighed};
-ghost use Rattle.balance.specs.Told.{weightsIn, weighing, weighingBy};
+ghost use Rattle.balance.specs.Told.{weightAt, weighing, checkedWeighing};
 
-// What comes of weighing: the total; a transition whose outputs weigh other than its inputs, the lowest; or there are no weights.
+// What comes of weighing: the total; a transition whose outputs weigh other than its inputs, the lowest; or the weights are not 2P bytes.
 pub enum Weighing {
     Total(u64),
     Unbalanced(usize),
@@ -25,7 +25,7 @@ pub enum Weighing {
 // What the arcs of so many places weigh, which stand in the net from `from` on.
 fn arcs(net: &[u8], from: usize, weights: &[u8], places: usize) -> usize
     requires { ⌜ (places < 256) × (from + places ≤ length (now net)) × (2 * places ≤ length (now weights)) ⌝ }
-    ensures { λ r. ⌜ (r ≡ weighed places (weightsIn (now (weights .entry))) (λ p. byte (now (net .entry)) (from + p))) × (r ≤ places * 16711425) ⌝ }
+    ensures { λ r. ⌜ (r ≡ weighed places (weightAt (now (weights .entry))) (λ p. byte (now (net .entry)) (from + p))) × (r ≤ places * 16711425) ⌝ }
 {
     let mut weight = 0;
     let mut p = 0;
@@ -40,7 +40,7 @@ fn arcs(net: &[u8], from: usize, weights: &[u8], places: usize) -> usize
 // What the marking weighs.
 fn marking(state: &[u8], weights: &[u8], places: usize) -> usize
     requires { ⌜ (places < 256) × (markAt places ≤ length (now state)) × (2 * places ≤ length (now weights)) ⌝ }
-    ensures { λ r. ⌜ (r ≡ weighed places (weightsIn (now (weights .entry))) (λ p. word (now (state .entry)) (markAt p))) × (r ≤ places * 4294836225) ⌝ }
+    ensures { λ r. ⌜ (r ≡ weighed places (weightAt (now (weights .entry))) (λ p. word (now (state .entry)) (markAt p))) × (r ≤ places * 4294836225) ⌝ }
 {
     let mut weight = 0;
     let mut p = 0;
@@ -69,7 +69,7 @@ fn words_sum(s: &[u8], at: usize, n: usize) -> usize
 // The state, weighed transition by transition; the first that is unbalanced ends it.
 fn weigh_all(net: &[u8], shape: Net, state: &[u8], weights: &[u8]) -> Weighing
     requires { ⌜ Framed (now net) shape (now state) × (2 * shape .places ≤ length (now weights)) ⌝ }
-    ensures { λ r. ⌜ r ≡ weighing (netOf (now (net .entry))) (weightsIn (now (weights .entry))) (stored (now (net .entry)) (now (state .entry))) ⌝ }
+    ensures { λ r. ⌜ r ≡ weighing (netOf (now (net .entry))) (weightAt (now (weights .entry))) (stored (now (net .entry)) (now (state .entry))) ⌝ }
 {
     let places = shape.places;
     let mut total = marking(state, weights, places);
@@ -90,7 +90,7 @@ fn weigh_all(net: &[u8], shape: Net, state: &[u8], weights: &[u8]) -> Weighing
 // The state weighed by weights of two bytes for each place.
 pub fn weigh(net: &[u8], shape: Net, state: &[u8], weights: &[u8]) -> Weighing
     requires { ⌜ Framed (now net) shape (now state) ⌝ }
-    ensures { λ r. ⌜ r ≡ weighingBy (netOf (now (net .entry))) (now (weights .entry)) (stored (now (net .entry)) (now (state .entry))) ⌝ }
+    ensures { λ r. ⌜ r ≡ checkedWeighing (netOf (now (net .entry))) (now (weights .entry)) (stored (now (net .entry)) (now (state .entry))) ⌝ }
 {
     if weights.len() != 2 * shape.places {
         return Weighing::NoWeights;

@@ -24,12 +24,12 @@ use Rattle.engine.specs.Calls.{netTold, stateTold, eventTold, degreeTold, owedT
 use Rattle.runner.specs.Choice.{choice}
 use Rattle.runner.specs.Page.{page}
 use Rattle.runner.specs.Call.{examinePage, pageTold}
-use Rattle.balance.specs.Weights.{weighed, firstUneven, running, firingsWeight, total}
-use Rattle.balance.specs.Told.{weighing, weighingBy, balanceTold}
+use Rattle.balance.specs.Weights.{weighed, firstUnbalanced, running, firingsWeight, total}
+use Rattle.balance.specs.Told.{weighing, checkedWeighing, balanceTold}
 use Rattle.menu.specs.Edges.{Edges}
 
 pub edges : Edges
-unfolding netTold stateTold eventTold degreeTold owedTold runTold runLeft walkTold stepTold pageTold balanceTold weighingBy weighing total firingsWeight running firstUneven weighed sum examinePage examineNet examineState examineLog
+unfolding netTold stateTold eventTold degreeTold owedTold runTold runLeft walkTold stepTold pageTold balanceTold checkedWeighing weighing total firingsWeight running firstUnbalanced weighed sum examinePage examineNet examineState examineLog
     checkNet net-head? checkRow some-weight? checkState has-head? none-past? checkLog is-log? begins? checksInTurn
     netOf stateOf eventsIn word word32 blank? setWord putWords putRows rowAt countAt stateLength written startFrom endFrom wordOf
     page choice ticksIn startedAfter turns run walk walkBack inTurn owed owes-start? owes-end? standingOf degree times apply back started ended ticked unstarted unended unticked older

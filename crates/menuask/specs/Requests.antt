@@ -17,9 +17,9 @@ thirdMost = 65536
 unfoldable pub within? : ℕ → ℕ → ℕ → Bool
 within? kind least most = leb least kind && leb kind most
 
--- it is one from `least` on, and no step, which has a log alone
-unfoldable pub no-step? : ℕ → ℕ → Bool
-no-step? kind least = not (eqb kind 10) && within? kind least 12
+-- and it asks for no step, which has a log alone
+unfoldable pub within-but-step? : ℕ → ℕ → ℕ → Bool
+within-but-step? kind least most = not (eqb kind 10) && within? kind least most
 
 -- two numbers, the bytes of an event; or one: a transition, a number of events, of a step, or a budget
 abbrev pub numbersOf : ℕ → ℕ
@@ -32,8 +32,8 @@ takes-fact? kind = within? kind 4 5 || within? kind 8 9
 -- its slices and numbers, in this order
 abbrev pub partsOf : ℕ → Parts
 partsOf kind = record {
-  net = no-step? kind 1;
-  state = no-step? kind 2;
+  net = within-but-step? kind 1 12;
+  state = within-but-step? kind 2 12;
   third = within? kind 8 12;
   numbers = numbersOf kind;
   started = takes-fact? kind;

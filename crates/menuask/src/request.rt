@@ -4,7 +4,7 @@ use libc::STDIN_FILENO;
 ghost use mathlib.Core.Path.{_≡_};
 ghost use mathlib.Core.Bool.{true};
 ghost use Rattle.io.specs.Counts.{Counts};
-ghost use Rattle.menuask.specs.Requests.{within?, no-step?, numbersOf, takes-fact?, partsOf, asks?};
+ghost use Rattle.menuask.specs.Requests.{within?, within-but-step?, numbersOf, takes-fact?, partsOf, asks?};
 
 // What a request of some kind has, in this order: slices, so many numbers, and the number that says whether a start has happened in the step. The
 // third slice is a log, the buffer for one, or weights.
@@ -43,14 +43,14 @@ fn within(kind: u8, least: u8, most: u8) -> bool
     kind <= most
 }
 
-// It is one from `least` on, and asks for no step, which has a log alone.
-fn no_step(kind: u8, least: u8) -> bool
-    ensures { λ r. ⌜ r ≡ no-step? kind least ⌝ }
+// And it asks for no step, which has a log alone.
+fn within_but_step(kind: u8, least: u8, most: u8) -> bool
+    ensures { λ r. ⌜ r ≡ within-but-step? kind least most ⌝ }
 {
     if kind == 10 {
         return false;
     }
-    within(kind, least, 12)
+    within(kind, least, most)
 }
 
 // How many numbers a request of this kind has before the one that says whether a start has happened: two for an event, one for a transition, a
@@ -85,8 +85,8 @@ pub fn parts_of(kind: u8) -> Parts
     ensures { λ r. ⌜ r ≡ partsOf kind ⌝ }
 {
     Parts {
-        net: no_step(kind, 1),
-        state: no_step(kind, 2),
+        net: within_but_step(kind, 1, 12),
+        state: within_but_step(kind, 2, 12),
         third: within(kind, 8, 12),
         numbers: numbers(kind),
         started: takes_fact(kind),

@@ -5,7 +5,7 @@ use Prim.Native.Nat.{ℕ, _+_, _-_, _*_, _≤_}
 use native.Mathlib.Omega.{arith}
 use Rattle.forms.specs.Word.{byte}
 use Rattle.balance.specs.Weights.{weighed}
-use Rattle.balance.specs.Told.{weightsIn}
+use Rattle.balance.specs.Told.{weightAt}
 use Rattle.balance.proofs.Exact.{word-by-byte}
 use Rattle.balance.proofs.Turns.{weighed-begin, weighed-turn}
 use borrow.Author.Needs.{needs}
@@ -13,13 +13,13 @@ use Rattle.balance.proofs.weigh.arcs.Statement.{statement}
 use Rattle.balance.proofs.weigh.arcs.Tie as tie
 
 abbrev Inv-loop : tie.InvT-loop
-Inv-loop net from weights places weight₀ p₀ weight p = (p ≤ places) × (weight ≡ weighed p (weightsIn weights) (λ q. byte net (from + q))) × (weight ≤ p * 16711425)
+Inv-loop net from weights places weight₀ p₀ weight p = (p ≤ places) × (weight ≡ weighed p (weightAt weights) (λ q. byte net (from + q))) × (weight ≤ p * 16711425)
 
 abbrev μ-loop : tie.MeasureT-loop
 μ-loop net from weights places weight₀ p₀ weight p = places - p
 
 loop-holds : tie.Need-loop-holds Inv-loop μ-loop
-loop-holds c = let a = c .before .before .args in (omega arith, weighed-begin (weightsIn (a .weights .now)) (λ q. byte (a .net .now) (a .from + q)), omega arith)
+loop-holds c = let a = c .before .before .args in (omega arith, weighed-begin (weightAt (a .weights .now)) (λ q. byte (a .net .now) (a .from + q)), omega arith)
 
 mul-read16 : tie.Need-mul-read16 Inv-loop μ-loop
 mul-read16 c = search needs
@@ -57,7 +57,7 @@ loop-again c =
     let l = c .before .before .before .before in
     let a = l .before .before .before .args in (
       omega arith,
-      weighed-turn (weightsIn (a .weights .now)) (λ q. byte (a .net .now) (a .from + q)) (l .loop .p) (l .loop .weight) _ _ (l .loop .inv .1) (c .before .before .read16 .ensures .0) (c .wide .ensures .0),
+      weighed-turn (weightAt (a .weights .now)) (λ q. byte (a .net .now) (a .from + q)) (l .loop .p) (l .loop .weight) _ _ (l .loop .inv .1) (c .before .before .read16 .ensures .0) (c .wide .ensures .0),
       omega (arith, small c),
     )
 
@@ -66,7 +66,7 @@ returns c =
     let l = c .before in
     let a = l .before .before .before .args in
     let done : l .loop .p ≡ a .places = omega arith in
-    (l .loop .inv .1 ∙ ap (λ (n : ℕ). weighed n (weightsIn (a .weights .now)) (λ q. byte (a .net .now) (a .from + q))) done, omega arith)
+    (l .loop .inv .1 ∙ ap (λ (n : ℕ). weighed n (weightAt (a .weights .now)) (λ q. byte (a .net .now) (a .from + q))) done, omega arith)
 
 pub arcs-spec : {M : Type 1} → statement M
 arcs-spec =

@@ -6,7 +6,7 @@ use native.Mathlib.Omega.{arith}
 use Rattle.forms.specs.Word.{word}
 use Rattle.forms.specs.Places.{markAt}
 use Rattle.balance.specs.Weights.{weighed}
-use Rattle.balance.specs.Told.{weightsIn}
+use Rattle.balance.specs.Told.{weightAt}
 use Rattle.balance.proofs.Exact.{word-by-word}
 use Rattle.balance.proofs.Turns.{weighed-begin, weighed-turn}
 use borrow.Author.Needs.{needs}
@@ -14,13 +14,13 @@ use Rattle.balance.proofs.weigh.marking.Statement.{statement}
 use Rattle.balance.proofs.weigh.marking.Tie as tie
 
 abbrev Inv-loop : tie.InvT-loop
-Inv-loop state weights places weight₀ p₀ weight p = (p ≤ places) × (weight ≡ weighed p (weightsIn weights) (λ q. word state (markAt q))) × (weight ≤ p * 4294836225)
+Inv-loop state weights places weight₀ p₀ weight p = (p ≤ places) × (weight ≡ weighed p (weightAt weights) (λ q. word state (markAt q))) × (weight ≤ p * 4294836225)
 
 abbrev μ-loop : tie.MeasureT-loop
 μ-loop state weights places weight₀ p₀ weight p = places - p
 
 loop-holds : tie.Need-loop-holds Inv-loop μ-loop
-loop-holds c = let a = c .before .before .args in (omega arith, weighed-begin (weightsIn (a .weights .now)) (λ q. word (a .state .now) (markAt q)), omega arith)
+loop-holds c = let a = c .before .before .args in (omega arith, weighed-begin (weightAt (a .weights .now)) (λ q. word (a .state .now) (markAt q)), omega arith)
 
 mul-read16 : tie.Need-mul-read16 Inv-loop μ-loop
 mul-read16 c = search needs
@@ -55,7 +55,7 @@ loop-again c =
     let l = c .before .before .before .before in
     let a = l .before .before .before .args in (
       omega arith,
-      weighed-turn (weightsIn (a .weights .now)) (λ q. word (a .state .now) (markAt q)) (l .loop .p) (l .loop .weight) _ _ (l .loop .inv .1) (c .before .before .read16 .ensures .0) (rw (← c .before .mark-at .ensures) (c .read162 .ensures .0)),
+      weighed-turn (weightAt (a .weights .now)) (λ q. word (a .state .now) (markAt q)) (l .loop .p) (l .loop .weight) _ _ (l .loop .inv .1) (c .before .before .read16 .ensures .0) (rw (← c .before .mark-at .ensures) (c .read162 .ensures .0)),
       omega (arith, small c),
     )
 
@@ -64,7 +64,7 @@ returns c =
     let l = c .before in
     let a = l .before .before .before .args in
     let done : l .loop .p ≡ a .places = omega arith in
-    (l .loop .inv .1 ∙ ap (λ (n : ℕ). weighed n (weightsIn (a .weights .now)) (λ q. word (a .state .now) (markAt q))) done, omega arith)
+    (l .loop .inv .1 ∙ ap (λ (n : ℕ). weighed n (weightAt (a .weights .now)) (λ q. word (a .state .now) (markAt q))) done, omega arith)
 
 pub marking-spec : {M : Type 1} → statement M
 marking-spec =

@@ -10,15 +10,15 @@ use Rattle.forms.specs.Stored.{netOf}
 use Rattle.forms.proofs.States.{places-small, transitions-small, transitions-same}
 use Rattle.forms.proofs.Inside.{marks-inside, row-limits, inputs-inside, outputs-inside, count-limits}
 use Rattle.balance.specs.Weights.{weightIn, weightOut}
-use Rattle.balance.specs.Told.{weightsIn}
+use Rattle.balance.specs.Told.{weightAt}
 use Rattle.balance.proofs.Exact.{firings-bound}
-use Rattle.balance.proofs.Turns.{narrow, row-inside, running-is, arcs-in, arcs-out, Weighs, weighs-begin, weighs-turn, uneven-found, weighs-all}
+use Rattle.balance.proofs.Turns.{narrow, row-inside, running-is, arcs-in, arcs-out, Weighs, weighs-begin, weighs-turn, unbalanced-found, weighs-all}
 use borrow.Author.Needs.{needs}
 use Rattle.balance.proofs.weigh.weigh_all.Statement.{statement}
 use Rattle.balance.proofs.weigh.weigh_all.Tie as tie
 
 abbrev Inv-loop : tie.InvT-loop
-Inv-loop net shape state weights places total₀ t₀ total t = Weighs net shape state (weightsIn weights) t total
+Inv-loop net shape state weights places total₀ t₀ total t = Weighs net shape state (weightAt weights) t total
 
 abbrev μ-loop : tie.MeasureT-loop
 μ-loop net shape state weights places total₀ t₀ total t = shape .transitions - t
@@ -33,7 +33,7 @@ loop-holds : tie.Need-loop-holds Inv-loop μ-loop
 loop-holds c =
     let e = c .before .before .before .before in
     let a = e .args in
-    weighs-begin (a .net .now) (a .shape) (a .state .now) (e .pre .0) (weightsIn (a .weights .now)) _ (c .marking .ensures .0) (c .marking .ensures .1)
+    weighs-begin (a .net .now) (a .shape) (a .state .now) (e .pre .0) (weightAt (a .weights .now)) _ (c .marking .ensures .0) (c .marking .ensures .1)
 
 -- A TURN: the transition is one of the net's
 
@@ -68,27 +68,27 @@ arcs-requires-2 c κs =
 
 -- what it takes in, and what it puts out
 takes-in : (c : tie.After-arcs2 Inv-loop μ-loop)
-    → c .before .before .arcs .result ≡ weightIn (netOf (c .before .before .before .before .before .before .before .before .before .before .before .args .net .now)) (weightsIn (c .before .before .before .before .before .before .before .before .before .before .before .args .weights .now)) (c .before .before .before .before .before .before .loop .t)
+    → c .before .before .arcs .result ≡ weightIn (netOf (c .before .before .before .before .before .before .before .before .before .before .before .args .net .now)) (weightAt (c .before .before .before .before .before .before .before .before .before .before .before .args .weights .now)) (c .before .before .before .before .before .before .loop .t)
 takes-in c =
     let e = c .before .before .before .before .before .before .before .before .before .before .before in
     let a = e .args in
     c .before .before .arcs .ensures .0
-    ∙ arcs-in (a .net .now) (a .shape) (a .state .now) (e .pre .0) (weightsIn (a .weights .now)) _ _ (c .before .before .before .inputs-at .ensures)
+    ∙ arcs-in (a .net .now) (a .shape) (a .state .now) (e .pre .0) (weightAt (a .weights .now)) _ _ (c .before .before .before .inputs-at .ensures)
 
 puts-out : (c : tie.After-arcs2 Inv-loop μ-loop)
-    → c .arcs2 .result ≡ weightOut (netOf (c .before .before .before .before .before .before .before .before .before .before .before .args .net .now)) (weightsIn (c .before .before .before .before .before .before .before .before .before .before .before .args .weights .now)) (c .before .before .before .before .before .before .loop .t)
+    → c .arcs2 .result ≡ weightOut (netOf (c .before .before .before .before .before .before .before .before .before .before .before .args .net .now)) (weightAt (c .before .before .before .before .before .before .before .before .before .before .before .args .weights .now)) (c .before .before .before .before .before .before .loop .t)
 puts-out c =
     let e = c .before .before .before .before .before .before .before .before .before .before .before in
     let a = e .args in
     c .arcs2 .ensures .0
-    ∙ arcs-out (a .net .now) (a .shape) (a .state .now) (e .pre .0) (weightsIn (a .weights .now)) _ _ (c .before .outputs-at .ensures)
+    ∙ arcs-out (a .net .now) (a .shape) (a .state .now) (e .pre .0) (weightAt (a .weights .now)) _ _ (c .before .outputs-at .ensures)
 
 returns : tie.Need-returns Inv-loop μ-loop
 returns c =
     let e = c .before .before .before .before .before .before .before .before .before .before .before .before in
     let a = e .args in
     let l = c .before .before .before .before .before .before .before .loop in
-    uneven-found (a .net .now) (a .shape) (a .state .now) (e .pre .0) (weightsIn (a .weights .now)) (l .t) (l .total) _ _ (l .inv) (c .before .before .before .before .before .if1 .taken)
+    unbalanced-found (a .net .now) (a .shape) (a .state .now) (e .pre .0) (weightAt (a .weights .now)) (l .t) (l .total) _ _ (l .inv) (c .before .before .before .before .before .if1 .taken)
     (takes-in (c .before)) (puts-out (c .before)) (c .if2 .taken)
 
 column-requires : tie.Need-column-requires Inv-loop μ-loop
@@ -142,7 +142,7 @@ loop-again c =
     let b = a .state .now in
     let f = e .pre .0 in
     let many = running-is n (a .shape) b f (l .t) (known (c .before .before .before .before .before .before .before .before)) _ (c .before .before .column .ensures) _ (c .before .count-at .ensures) in
-    weighs-turn n (a .shape) b f (weightsIn (a .weights .now)) (l .t) (l .total) _ _ (l .inv) (c .before .before .before .before .before .before .before .before .if1 .taken)
+    weighs-turn n (a .shape) b f (weightAt (a .weights .now)) (l .t) (l .total) _ _ (l .inv) (c .before .before .before .before .before .before .before .before .if1 .taken)
     (takes-in (c .before .before .before .before)) (puts-out (c .before .before .before .before)) (c .before .before .before .if2 .left) _ (c .words-sum .ensures .0 ∙ many) (small c)
 
 returns-2 : tie.Need-returns-2 Inv-loop μ-loop
@@ -150,7 +150,7 @@ returns-2 c =
     let e = c .before .before .before .before .before .before .before in
     let a = e .args in
     let l = c .before .before .loop in
-    weighs-all (a .net .now) (a .shape) (a .state .now) (e .pre .0) (weightsIn (a .weights .now)) (l .t) (l .total) (l .inv) (c .if1 .left)
+    weighs-all (a .net .now) (a .shape) (a .state .now) (e .pre .0) (weightAt (a .weights .now)) (l .t) (l .total) (l .inv) (c .if1 .left)
 
 pub weigh-all-spec : {M : Type 1} → statement M
 weigh-all-spec =
