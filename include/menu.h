@@ -59,7 +59,8 @@
  * changes the total, by the difference of its two weights. No start and no tick ever does.
  *
  * So under a net that balances no events and no steps back lead between two states with different totals. Equal totals do not show
- * that some do, nor that a log is accepted. And 30 speaks of the net alone: whether such a firing ever comes about is not asked.
+ * that some do, nor that a log is accepted. Of tokens with weight 0 nothing is said: they may vanish. With 0 for every place each net is
+ * accepted, and the total is 0. And 30 speaks of net and weights alone: whether such a firing ever comes about is not asked.
  *
  * WHAT A CALLER LENDS
  *
@@ -315,7 +316,7 @@ typedef struct menu_page_told {
 typedef struct menu_balance_told {
     uint64_t number;
     uint64_t index;
-    uint64_t total;                /* what the state weighs, with its firings; where it is refused, 0 */
+    uint64_t total;                /* what the state weighs, with its firings; where the call is refused, 0 */
 } menu_balance_told;
 
 /* CALLS */

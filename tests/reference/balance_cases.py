@@ -85,6 +85,8 @@ TAKEN = [
     leak("one too much for 264", FOUR, four(3, 1, 4, 1, count=2), [1, 265, 1, 1], 0),
     leak("256 too little", FOUR, four(3, 1, 4, 1), [1, 8, 1, 1], 0),
     leak("one too little for 65,535", FOUR, four(1, 1, 1, 1), [0, 65534, 0, 257], 0),
+    leak("2 to the 20 too little", FOUR, four(1, 1, 1, 1), [5, 1, 1, 4112], 0),
+    leak("2 to the 24 too little", FOUR, four(1, 1, 1, 1), [10, 1, 9396, FULL], 0),
     leak("65,536 too little", FOUR, four(1, 1, 1, 1), [1, 1, 0, 257], 0),
     leak("the place that it gives to weighs nothing", FOUR, four(1, 1, 1, 1), [1, 0, 1, 1], 0),
     leak("the places that it takes from weigh nothing", FOUR, four(1, 1, 1, 1), [0, 1, 0, 0], 0),
@@ -143,16 +145,18 @@ GREAT = [
     told("all of 64 firings' ages", SLOW, slow(FULL, {age: FULL for age in range(64)}), [FULL], 279164354625),
     told("the longest net, one token each", LONGEST, longest(1, 0), [1] * 64, 64),
     told("the longest net, one firing each", LONGEST, longest(0, 1), [1] * 64, 66846720),
+    told("the longest net, the last place of weight 1", LONGEST, longest(FULL, FULL), [FULL] * 63 + [1], 282610183062888510),
+    leak("the longest net, its very last arc is one less", LONGEST[:-1] + b"\xfe", longest(0, 0), [FULL] * 63 + [1], 63),
     told("the greatest total", LONGEST, longest(FULL, FULL), [FULL] * 64, 287095989447950400),
 ]
 
 GOOD, LEAKING = words([7, 7, 7]), words([1, 2, 3])
-SHORT = [0, 1, 2, 3, 4, 5, 7, 8, 9, 12]
+SHORT = [0, 1, 2, 3, 4, 5, 7, 8, 9, 12, 128, 262]
 
 # weights that are not 2P bytes, then a leak
 LENGTHS = [
-    *(refused(f"{size} bytes for 3 places", 31, 0, NET, INITIAL, (GOOD * 2)[:size]) for size in SHORT),
-    *(refused(f"{size} bytes for 3 places, a leak: 31 before 30", 31, 0, NET, INITIAL, (LEAKING * 2)[:size]) for size in SHORT),
+    *(refused(f"{size} bytes for 3 places", 31, 0, NET, INITIAL, (GOOD * 44)[:size]) for size in SHORT),
+    *(refused(f"{size} bytes for 3 places, a leak: 31 before 30", 31, 0, NET, INITIAL, (LEAKING * 44)[:size]) for size in SHORT),
     *(refused(f"{size} bytes for a place", 31, 0, LOOP, loop(1), b"\0\1\0\1"[:size]) for size in (0, 1, 3, 4)),
     told("2 bytes for a place", LOOP, loop(1), [1], 1),
     *(refused(f"{size} bytes for 64 places", 31, 0, WIDE, wide([1] * 64), words([1] * 70)[:size]) for size in (64, 126, 127, 129, 130)),

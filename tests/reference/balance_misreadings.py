@@ -3,6 +3,8 @@
 That a firing is weighed by what its transition puts out is not among them: where a total is told, every
 transition puts out the weight it takes in."""
 
+import struct
+
 import reference
 
 right_weights, right_leaks, right_total = reference.read_weights, reference.leaks, reference.total_of
@@ -99,6 +101,11 @@ def lengths_where(accepted):
 
 def signed(weight):
     return weight - 65_536 if weight >= 32_768 else weight
+
+
+def rounded(weight):
+    """As a floating-point number of 32 bits."""
+    return struct.unpack("f", struct.pack("f", weight))[0]
 
 
 # ---- 30
@@ -264,6 +271,8 @@ OF_BALANCES = {
     "shorter weights are taken": lengths_where(lambda size, wanted: size < wanted),
     "a byte too many is taken": lengths_where(lambda size, wanted: size == wanted + 1),
     "a byte too few is taken": lengths_where(lambda size, wanted: size == wanted - 1),
+    "the length by its low byte": lengths_where(lambda size, wanted: size % 256 == wanted % 256),
+    "128 bytes are taken": lengths_where(lambda size, wanted: size == 128),
     "no weights are taken": lengths_where(lambda size, wanted: size == 0),
     "30 not asked": tellings(lambda found, net: None),
     "30 of more put out alone": leaking_where(lambda out, taken, row, weights: out > taken),
@@ -271,6 +280,8 @@ OF_BALANCES = {
     "30 by more than one": leaking_where(lambda out, taken, row, weights: abs(out - taken) > 1),
     "30 by the low byte": leaking_where(lambda out, taken, row, weights: (out - taken) % 256 != 0),
     "30 by the low two bytes": leaking_where(lambda out, taken, row, weights: (out - taken) % 65_536 != 0),
+    "30 by the low three bytes": leaking_where(lambda out, taken, row, weights: (out - taken) % 2**24 != 0),
+    "30 in 24 bits and an exponent": leaking_where(lambda out, taken, row, weights: rounded(out) != rounded(taken)),
     "30 by the number of tokens": leaking_where(lambda out, taken, row, weights: sum(row.outputs) != sum(row.inputs)),
     "30 by each place": leaking_where(
         lambda out, taken, row, weights: any(w and i != o for w, i, o in zip(weights, row.inputs, row.outputs))

@@ -92,17 +92,22 @@ module _ (N : Net) (w : ℕ → ℕ) (small : Small N w) where
         sum-le (N .places) (λ p. w p * tokens S p) 4294836225
         (λ p l. word-by-word (w p) (tokens S p) (small .weights-words p l) (omega (arith, s .tokens-fit p l)))
 
+    rows-bound : (t : ℕ) → t < N .transitions → running N S t ≤ width N * 65535
+    unfolding running
+    rows-bound t l = sum-le (width N) (count S t) 65535 (λ j d. s .counts-fit t j l d)
+
     runs-bound : sum (N .transitions) (firingsWeight N w S) ≤ N .transitions * 17873390433960000
-    unfolding firingsWeight running
+    unfolding firingsWeight
     runs-bound =
-        sum-le (N .transitions) (λ t. sum (width N) (count S t) * weightIn N w t) 17873390433960000
-        (λ t l. firings-bound (width N) (N .places) _ _ (omega (arith, small .narrow)) (small .few-places)
-        (sum-le (width N) (count S t) 65535 (λ j d. s .counts-fit t j l d)) (arcs-bound (N .takes t) (λ p k. small .inputs-bytes t p l k)))
+        sum-le (N .transitions) (λ t. running N S t * weightIn N w t) 17873390433960000
+        (λ t l. firings-bound (width N) (N .places) _ _ (omega (arith, small .narrow)) (small .few-places) (rows-bound t l)
+        (arcs-bound (N .takes t) (λ p k. small .inputs-bytes t p l k)))
 
     pub no-overflow : NoOverflow N w S
     unfolding total
     no-overflow = record {
       taken-in = λ t l. omega (arith, arcs-bound (N .takes t) (λ p k. small .inputs-bytes t p l k), small .few-places);
       put-out = λ t l. omega (arith, arcs-bound (N .gives t) (λ p k. small .outputs-bytes t p l k), small .few-places);
+      counted = λ t l. omega (arith, rows-bound t l, small .narrow);
       in-all = total-bound (N .places) (N .transitions) _ _ (small .few-places) (small .few-transitions) marks-bound runs-bound;
     }

@@ -1,4 +1,4 @@
--- Totals on the children's row net, as numbers that a reader can add up: of weights under which it balances, and of others.
+-- Totals on the children's row net, once with heavier arcs, as numbers that a reader can add up: under weights by which it balances, and by others.
 -- Assumes nothing.
 use mathlib.Core.Path.{_≡_}
 use mathlib.Core.Bool.{false}

@@ -1,4 +1,5 @@
--- Nothing leaks: what is proved of the total, of every net and all weights. Only the last two statements ask anything of the net.
+-- Nothing leaks: what is proved of the total, of every net and all weights; `TotalKept` of nets that balance (OnBytes has that premise), and the
+-- last two statements of nets within bounds.
 -- Assumes nothing.
 use mathlib.Core.Path.{_≡_}
 use mathlib.Core.Bool.{Bool, false}
@@ -9,7 +10,7 @@ use Rattle.model.specs.Limits.{placeLimit, transitionLimit, Held}
 use Rattle.model.specs.Net.{Net, State, Proper, Lawful, width, tokens}
 use Rattle.model.specs.Moves.{Starts, Ends, Ticks, Moves}
 use Rattle.model.specs.Run.{run, walk}
-use Rattle.balance.specs.Weights.{weightIn, weightOut, BalancedAt, total}
+use Rattle.balance.specs.Weights.{weightIn, weightOut, BalancedAt, running, total}
 
 -- WHETHER THE NET BALANCES OR NOT
 
@@ -73,4 +74,5 @@ pub record Small (N : Net) (weight : ℕ → ℕ) : Type 0 where
 pub record NoOverflow (N : Net) (weight : ℕ → ℕ) (S : State) : Type 0 where
   pub taken-in : (t : ℕ) → t < N .transitions → weightIn N weight t < 2 ^ 60
   pub put-out : (t : ℕ) → t < N .transitions → weightOut N weight t < 2 ^ 60
+  pub counted : (t : ℕ) → t < N .transitions → running N S t < 2 ^ 60
   pub in-all : total N weight S < 2 ^ 60
