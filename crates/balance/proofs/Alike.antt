@@ -1,4 +1,4 @@
--- The call answers the same of whatever the engine's calls, and the page runner's, leave.
+-- The call answers the same of whatever events, steps back, runs, walks and pages leave.
 -- Assumes nothing.
 use mathlib.Core.Path.{_≡_, refl, sym, ap, subst, _∙_}
 use mathlib.Core.Bool.{Bool, false}
@@ -28,7 +28,7 @@ use Rattle.runner.proofs.OnBytes.{on-bytes as pages}
 use Rattle.balance.specs.declared.call.BalanceTold.{BalanceTold}
 use Rattle.balance.specs.Weights.{Balanced, total}
 use Rattle.balance.specs.Told.{weightAt, balanceOf, noBalance, checkedWeighing, balanceTold}
-use Rattle.balance.specs.Promised.{saysBalance, Used, ToldAlike}
+use Rattle.balance.specs.Promised.{saysBalance, Used}
 use Rattle.balance.proofs.Kept.{moves-keep, leads-keep, walked-keep}
 use Rattle.balance.proofs.Answers.{Comes, comes, is-31, is-30, is-0, is-total-told}
 
@@ -51,7 +51,7 @@ same-answer N S S′ weights kept = go (comes N weights S)
 -- WHAT A CALL LEAVES
 
 -- the bytes it was given, or a state of the same total wherever the net balances
-pub data Keeps (net b b′ : List ℕ) : Type 0 where
+data Keeps (net b b′ : List ℕ) : Type 0 where
   unchanged : b′ ≡ b → Keeps net b b′
   moved : (S′ : State) → LeavesState net b b′ S′
       → ((w : ℕ → ℕ) → Balanced (netOf net) w → total (netOf net) w S′ ≡ total (netOf net) w (stored net b)) → Keeps net b b′

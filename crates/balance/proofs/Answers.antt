@@ -21,19 +21,19 @@ use Rattle.balance.specs.Weights.{weightIn, weightOut, BalancedAt, Balan
 use Rattle.balance.specs.Told.{weightAt, balanceOf, weighing, checkedWeighing}
 use Rattle.balance.specs.Promised.{saysBalance}
 
--- WHICH TRANSITION IS UNEVEN
+-- WHICH TRANSITION IS NOT BALANCED
+
+-- two numbers that cannot differ are equal
+not-differ : (a b : ℕ) → ¬ (¬ (a ≡ b)) → a ≡ b
+not-differ a b h = go (eqb a b) refl
+  where
+    go : (x : Bool) → eqb a b ≡ x → a ≡ b
+    go true e = eqb-true a b e
+    go false e = absurd (h (eqb-false a b e))
 
 module _ (N : Net) (w : ℕ → ℕ) where
   NotBalanced : ℕ → Type 0
   NotBalanced t = ¬ BalancedAt N w t
-
-  -- two numbers that cannot differ are equal
-  not-differ : (a b : ℕ) → ¬ (¬ (a ≡ b)) → a ≡ b
-  not-differ a b h = go (eqb a b) refl
-    where
-      go : (x : Bool) → eqb a b ≡ x → a ≡ b
-      go true e = eqb-true a b e
-      go false e = absurd (h (eqb-false a b e))
 
   first-is : Lowest NotBalanced (N .transitions) (N .transitions) (firstUnbalanced N w)
   unfolding firstUnbalanced NotBalanced
@@ -44,16 +44,16 @@ module _ (N : Net) (w : ℕ → ℕ) where
   unbalanced-of (Lowest.found l a none) h = record { known = l; unbalanced = a; lower-balanced = λ u k. not-differ _ _ (none u (omega arith)) }
   unbalanced-of (Lowest.empty none) h = absurd (omega arith)
 
-  even-of : {t : ℕ} → Lowest NotBalanced (N .transitions) (N .transitions) t → N .transitions ≤ t → Balanced N w
+  balanced-of : {t : ℕ} → Lowest NotBalanced (N .transitions) (N .transitions) t → N .transitions ≤ t → Balanced N w
   unfolding NotBalanced
-  even-of (Lowest.found l a none) h = absurd (omega arith)
-  even-of (Lowest.empty none) h = λ u k. not-differ _ _ (none u k)
+  balanced-of (Lowest.found l a none) h = absurd (omega arith)
+  balanced-of (Lowest.empty none) h = λ u k. not-differ _ _ (none u k)
 
   first-unbalanced : firstUnbalanced N w < N .transitions → LowestUnbalanced N w (firstUnbalanced N w)
   first-unbalanced = unbalanced-of first-is
 
-  pub none-unbalanced : N .transitions ≤ firstUnbalanced N w → Balanced N w
-  none-unbalanced = even-of first-is
+  none-unbalanced : N .transitions ≤ firstUnbalanced N w → Balanced N w
+  none-unbalanced = balanced-of first-is
 
   unbalanced-first : (t : ℕ) → LowestUnbalanced N w t → t ≡ firstUnbalanced N w
   unfolding NotBalanced
@@ -62,7 +62,7 @@ module _ (N : Net) (w : ℕ → ℕ) where
       Lowest.found (h .known) (h .unbalanced) (λ u k no. no (h .lower-balanced u k)) in
       lowest-once here first-is
 
-  pub unbalanced-once : (t u : ℕ) → LowestUnbalanced N w t → LowestUnbalanced N w u → t ≡ u
+  unbalanced-once : (t u : ℕ) → LowestUnbalanced N w t → LowestUnbalanced N w u → t ≡ u
   unbalanced-once t u h k = unbalanced-first t h ∙ sym (unbalanced-first u k)
 
 -- WHAT WEIGHING COMES TO

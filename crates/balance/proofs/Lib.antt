@@ -1,6 +1,7 @@
 pub mod Cases
 pub mod Kept
-pub mod Exact
+pub mod Changes
+pub mod Bounds
 pub mod Answers
 pub mod Turns
 pub mod Alike

@@ -4,7 +4,8 @@ use mathlib.Core.Path.{refl}
 use Rattle.balance.specs.Told.{balanceTold}
 use Rattle.balance.specs.OnBytes.{OnBytes}
 use Rattle.balance.proofs.Kept.{accounted, total-kept}
-use Rattle.balance.proofs.Exact.{changes, no-overflow}
+use Rattle.balance.proofs.Changes.{changes}
+use Rattle.balance.proofs.Bounds.{no-overflow}
 use Rattle.balance.proofs.Alike.{used-alike}
 use Rattle.balance.proofs.Promised.{balance-promised}
 

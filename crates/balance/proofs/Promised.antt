@@ -27,7 +27,7 @@ use Rattle.balance.specs.Demands.{Small}
 use Rattle.balance.specs.Told.{weightAt, balanceOf, checkedWeighing, balanceTold}
 use Rattle.balance.specs.Promised.{saysBalance, Used, BalanceGiven, BalancePromise}
 use Rattle.balance.proofs.Kept.{place-holds}
-use Rattle.balance.proofs.Exact.{no-overflow}
+use Rattle.balance.proofs.Bounds.{no-overflow}
 use Rattle.balance.proofs.Answers.{Comes, comes, is-31, is-30, is-0, is-total-told}
 use Rattle.balance.proofs.Turns.{narrow}
 use Rattle.balance.proofs.Alike.{used-alike}

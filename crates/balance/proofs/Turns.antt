@@ -23,6 +23,7 @@ use Rattle.forms.proofs.Stored.{count-at, count-place}
 use Rattle.forms.proofs.States.{places-same, width-small, counts-inside}
 use Rattle.forms.proofs.Inside.{known-model, mark-stands}
 use Rattle.owed.proofs.ModelTests.{lowest-found, lowest-end}
+use Rattle.balance.specs.Bounds.{byteMost, firingsMost, tokensMost}
 use Rattle.balance.specs.declared.weigh.Weighing.the-variants as comes-to
 use Rattle.balance.specs.Weights.{weighed, weightIn, weightOut, unbalanced?, firstUnbalanced, running, firingsWeight, total}
 use Rattle.balance.specs.Told.{weighing}
@@ -53,7 +54,7 @@ module _ (w f : ℕ → ℕ) where
 
 module _ (net : List ℕ) (shape : Shape) (b : List ℕ) (f : Framed net shape b) where
   -- the widths that a state's byte can hold are narrow enough
-  pub narrow : shape .width ≤ 255
+  pub narrow : shape .width ≤ byteMost
   narrow = omega (arith, width-small net shape (f .net-framed))
 
   module _ (t : ℕ) (known : t < byte net 6) (c : Column) (first : c ≡ columnOf (record { 0 = 0 })) (at : ℕ)
@@ -83,7 +84,7 @@ pub record Weighs (net : List ℕ) (shape : Shape) (b : List ℕ) (w : ℕ → �
   pub passed : t ≤ shape .transitions
   pub even : all t (λ k. not (unbalanced? (netOf net) w k)) ≡ true
   pub weight : so-far ≡ weighed (shape .places) w (λ p. word b (markAt p)) + sum t (firingsWeight (netOf net) w (stored net b))
-  pub bounded : so-far ≤ shape .places * 4294836225 + t * 17873390433960000
+  pub bounded : so-far ≤ shape .places * tokensMost + t * firingsMost
 
 module _ (net : List ℕ) (shape : Shape) (b : List ℕ) (f : Framed net shape b) (w : ℕ → ℕ) where
   pub arcs-in : (t from : ℕ) → from ≡ inputsAt (shape .places) t
@@ -113,14 +114,14 @@ module _ (net : List ℕ) (shape : Shape) (b : List ℕ) (f : Framed net shape b
       let same = f .net-framed .has-shape .transitions-are in
       lowest-end (unbalanced? (netOf net) w) (netOf net .transitions) t (omega arith) (omega arith) none
 
-  pub weighs-begin : (marks : ℕ) → marks ≡ weighed (shape .places) w (λ p. word b (markAt p)) → marks ≤ shape .places * 4294836225
+  pub weighs-begin : (marks : ℕ) → marks ≡ weighed (shape .places) w (λ p. word b (markAt p)) → marks ≤ shape .places * tokensMost
       → Weighs net shape b w 0 marks
   unfolding all sum
   weighs-begin marks e l = record { passed = omega arith; even = refl; weight = omega arith; bounded = omega arith }
 
   module _ (t so-far taken given : ℕ) (is : Weighs net shape b w t so-far) (below : t < shape .transitions) (in-is : taken ≡ weightIn (netOf net) w t)
       (out-is : given ≡ weightOut (netOf net) w t) where
-    pub weighs-turn : taken ≡ given → (many : ℕ) → many ≡ running (netOf net) (stored net b) t → many * taken ≤ 17873390433960000
+    pub weighs-turn : taken ≡ given → (many : ℕ) → many ≡ running (netOf net) (stored net b) t → many * taken ≤ firingsMost
         → Weighs net shape b w (t + 1) (so-far + many * taken)
     unfolding firingsWeight
     weighs-turn e many m l =

@@ -1,3 +1,4 @@
+pub mod Bounds
 pub mod Weights
 pub mod Demands
 pub mod Told

@@ -1,5 +1,5 @@
 // Sums over the bytes of a checked net and state. The contract of each sum has a bound that keeps those above it within 64 bits, for every width
-// that fits its byte: durations up to 254. The bounds are multiples of 65535 * 255, 65535 * 65535 and 65535.
+// that fits its byte: durations up to 254.
 use forms::places;
 use forms::words;
 use model::age::Age;
@@ -12,6 +12,7 @@ ghost use Rattle.forms.specs.Word.{byte, word};
 ghost use Rattle.forms.specs.Places.{markAt};
 ghost use Rattle.forms.specs.Stored.{netOf, stored};
 ghost use Rattle.forms.specs.Frame.{Framed};
+ghost use Rattle.balance.specs.Bounds.{arcMost, tokensMost, wordMost};
 ghost use Rattle.balance.specs.Weights.{weighed};
 ghost use Rattle.balance.specs.Told.{weightAt, weighing, checkedWeighing};
 
@@ -25,7 +26,7 @@ pub enum Weighing {
 // What the arcs of so many places weigh, which stand in the net from `from` on.
 fn arcs(net: &[u8], from: usize, weights: &[u8], places: usize) -> usize
     requires { ⌜ (places < 256) × (from + places ≤ length (now net)) × (2 * places ≤ length (now weights)) ⌝ }
-    ensures { λ r. ⌜ (r ≡ weighed places (weightAt (now (weights .entry))) (λ p. byte (now (net .entry)) (from + p))) × (r ≤ places * 16711425) ⌝ }
+    ensures { λ r. ⌜ (r ≡ weighed places (weightAt (now (weights .entry))) (λ p. byte (now (net .entry)) (from + p))) × (r ≤ places * arcMost) ⌝ }
 {
     let mut weight = 0;
     let mut p = 0;
@@ -40,7 +41,7 @@ fn arcs(net: &[u8], from: usize, weights: &[u8], places: usize) -> usize
 // What the marking weighs.
 fn marking(state: &[u8], weights: &[u8], places: usize) -> usize
     requires { ⌜ (places < 256) × (markAt places ≤ length (now state)) × (2 * places ≤ length (now weights)) ⌝ }
-    ensures { λ r. ⌜ (r ≡ weighed places (weightAt (now (weights .entry))) (λ p. word (now (state .entry)) (markAt p))) × (r ≤ places * 4294836225) ⌝ }
+    ensures { λ r. ⌜ (r ≡ weighed places (weightAt (now (weights .entry))) (λ p. word (now (state .entry)) (markAt p))) × (r ≤ places * tokensMost) ⌝ }
 {
     let mut weight = 0;
     let mut p = 0;
@@ -55,7 +56,7 @@ fn marking(state: &[u8], weights: &[u8], places: usize) -> usize
 // The sum of n words of two bytes.
 fn words_sum(s: &[u8], at: usize, n: usize) -> usize
     requires { ⌜ (n < 256) × (at + 2 * n ≤ length (now s)) ⌝ }
-    ensures { λ r. ⌜ (r ≡ sum n (λ k. word (now (s .entry)) (at + 2 * k))) × (r ≤ n * 65535) ⌝ }
+    ensures { λ r. ⌜ (r ≡ sum n (λ k. word (now (s .entry)) (at + 2 * k))) × (r ≤ n * wordMost) ⌝ }
 {
     let mut all = 0;
     let mut k = 0;

@@ -4,16 +4,17 @@ use mathlib.Core.Path.{_≡_, ap, _∙_}
 use Prim.Native.Nat.{ℕ, _+_, _-_, _*_, _≤_}
 use native.Mathlib.Omega.{arith}
 use Rattle.forms.specs.Word.{byte}
+use Rattle.balance.specs.Bounds.{arcMost}
 use Rattle.balance.specs.Weights.{weighed}
 use Rattle.balance.specs.Told.{weightAt}
-use Rattle.balance.proofs.Exact.{word-by-byte}
+use Rattle.balance.proofs.Bounds.{word-by-byte}
 use Rattle.balance.proofs.Turns.{weighed-begin, weighed-turn}
 use borrow.Author.Needs.{needs}
 use Rattle.balance.proofs.weigh.arcs.Statement.{statement}
 use Rattle.balance.proofs.weigh.arcs.Tie as tie
 
 abbrev Inv-loop : tie.InvT-loop
-Inv-loop net from weights places weight₀ p₀ weight p = (p ≤ places) × (weight ≡ weighed p (weightAt weights) (λ q. byte net (from + q))) × (weight ≤ p * 16711425)
+Inv-loop net from weights places weight₀ p₀ weight p = (p ≤ places) × (weight ≡ weighed p (weightAt weights) (λ q. byte net (from + q))) × (weight ≤ p * arcMost)
 
 abbrev μ-loop : tie.MeasureT-loop
 μ-loop net from weights places weight₀ p₀ weight p = places - p
@@ -37,7 +38,7 @@ wide-requires : tie.Need-wide-requires Inv-loop μ-loop
 wide-requires c κs = search needs
 
 -- a word by a byte
-small : (c : tie.After-wide Inv-loop μ-loop) → c .before .before .read16 .result * c .wide .result ≤ 16711425
+small : (c : tie.After-wide Inv-loop μ-loop) → c .before .before .read16 .result * c .wide .result ≤ arcMost
 small c = word-by-byte _ _ (c .before .before .read16 .ensures .1) (c .wide .ensures .1)
 
 mul-one : tie.Need-mul-one Inv-loop μ-loop

@@ -5,16 +5,17 @@ use Prim.Native.Nat.{ℕ, _-_, _*_, _≤_}
 use native.Mathlib.Omega.{arith}
 use Rattle.forms.specs.Word.{word}
 use Rattle.forms.specs.Places.{markAt}
+use Rattle.balance.specs.Bounds.{tokensMost}
 use Rattle.balance.specs.Weights.{weighed}
 use Rattle.balance.specs.Told.{weightAt}
-use Rattle.balance.proofs.Exact.{word-by-word}
+use Rattle.balance.proofs.Bounds.{word-by-word}
 use Rattle.balance.proofs.Turns.{weighed-begin, weighed-turn}
 use borrow.Author.Needs.{needs}
 use Rattle.balance.proofs.weigh.marking.Statement.{statement}
 use Rattle.balance.proofs.weigh.marking.Tie as tie
 
 abbrev Inv-loop : tie.InvT-loop
-Inv-loop state weights places weight₀ p₀ weight p = (p ≤ places) × (weight ≡ weighed p (weightAt weights) (λ q. word state (markAt q))) × (weight ≤ p * 4294836225)
+Inv-loop state weights places weight₀ p₀ weight p = (p ≤ places) × (weight ≡ weighed p (weightAt weights) (λ q. word state (markAt q))) × (weight ≤ p * tokensMost)
 
 abbrev μ-loop : tie.MeasureT-loop
 μ-loop state weights places weight₀ p₀ weight p = places - p
@@ -35,7 +36,7 @@ read16-requires-2 : tie.Need-read16-requires-2 Inv-loop μ-loop
 read16-requires-2 c κs = search needs
 
 -- a word by a word
-small : (c : tie.After-read162 Inv-loop μ-loop) → c .before .before .read16 .result * c .read162 .result ≤ 4294836225
+small : (c : tie.After-read162 Inv-loop μ-loop) → c .before .before .read16 .result * c .read162 .result ≤ tokensMost
 small c = word-by-word _ _ (c .before .before .read16 .ensures .1) (c .read162 .ensures .1)
 
 mul-one : tie.Need-mul-one Inv-loop μ-loop

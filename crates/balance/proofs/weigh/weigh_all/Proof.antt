@@ -9,9 +9,10 @@ use Rattle.forms.specs.Word.{byte}
 use Rattle.forms.specs.Stored.{netOf}
 use Rattle.forms.proofs.States.{places-small, transitions-small, transitions-same}
 use Rattle.forms.proofs.Inside.{marks-inside, row-limits, inputs-inside, outputs-inside, count-limits}
+use Rattle.balance.specs.Bounds.{firingsMost}
 use Rattle.balance.specs.Weights.{weightIn, weightOut}
 use Rattle.balance.specs.Told.{weightAt}
-use Rattle.balance.proofs.Exact.{firings-bound}
+use Rattle.balance.proofs.Bounds.{firings-bound}
 use Rattle.balance.proofs.Turns.{narrow, row-inside, running-is, arcs-in, arcs-out, Weighs, weighs-begin, weighs-turn, unbalanced-found, weighs-all}
 use borrow.Author.Needs.{needs}
 use Rattle.balance.proofs.weigh.weigh_all.Statement.{statement}
@@ -111,7 +112,7 @@ words-sum-requires c κs =
     )
 
 -- its firings
-small : (c : tie.After-words-sum Inv-loop μ-loop) → c .words-sum .result * c .before .before .before .before .before .before .arcs .result ≤ 17873390433960000
+small : (c : tie.After-words-sum Inv-loop μ-loop) → c .words-sum .result * c .before .before .before .before .before .before .arcs .result ≤ firingsMost
 small c =
     let e = c .before .before .before .before .before .before .before .before .before .before .before .before .before .before .before in
     let a = e .args in

@@ -5,13 +5,14 @@ use Prim.Native.Nat.{ℕ, _+_, _-_, _*_, _≤_}
 use native.Mathlib.Omega.{arith}
 use Rattle.forms.specs.Word.{word}
 use Rattle.model.specs.Tab.{sum}
+use Rattle.balance.specs.Bounds.{wordMost}
 use Rattle.balance.proofs.Turns.{sum-begin, sum-turn}
 use borrow.Author.Needs.{needs}
 use Rattle.balance.proofs.weigh.words_sum.Statement.{statement}
 use Rattle.balance.proofs.weigh.words_sum.Tie as tie
 
 abbrev Inv-loop : tie.InvT-loop
-Inv-loop s at n all₀ k₀ all k = (k ≤ n) × (all ≡ sum k (λ i. word s (at + 2 * i))) × (all ≤ k * 65535)
+Inv-loop s at n all₀ k₀ all k = (k ≤ n) × (all ≡ sum k (λ i. word s (at + 2 * i))) × (all ≤ k * wordMost)
 
 abbrev μ-loop : tie.MeasureT-loop
 μ-loop s at n all₀ k₀ all k = n - k
