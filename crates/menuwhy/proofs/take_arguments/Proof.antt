@@ -1,0 +1,71 @@
+-- `take_arguments` is safe and ends.
+-- Assumes nothing.
+use Prim.Native.Nat.{_-_, _≤_}
+use borrow.Author.Needs.{needs}
+use Rattle.menuwhy.proofs.take_arguments.Statement.{statement}
+use Rattle.menuwhy.proofs.take_arguments.Tie as tie
+
+abbrev Inv-loop : tie.InvT-loop
+Inv-loop count asked₀ i₀ asked i = 1 ≤ i
+
+abbrev μ-loop : tie.MeasureT-loop
+μ-loop count asked₀ i₀ asked i = count - i
+
+arg-count-requires : tie.Need-arg-count-requires Inv-loop μ-loop
+arg-count-requires c κs = search needs
+
+nothing-requires : tie.Need-nothing-requires Inv-loop μ-loop
+nothing-requires c κs = search needs
+
+loop-holds : tie.Need-loop-holds Inv-loop μ-loop
+loop-holds c = search needs
+
+buffer-requires : tie.Need-buffer-requires Inv-loop μ-loop
+buffer-requires c κs = search needs
+
+slice-aggregate-arg : tie.Need-slice-aggregate-arg Inv-loop μ-loop
+slice-aggregate-arg c = search needs
+
+arg-requires : tie.Need-arg-requires Inv-loop μ-loop
+arg-requires c κs = search needs
+
+array-share-prefix-word : tie.Need-array-share-prefix-word Inv-loop μ-loop
+array-share-prefix-word c = search needs
+
+slice-aggregate-take : tie.Need-slice-aggregate-take Inv-loop μ-loop
+slice-aggregate-take c = search needs
+
+take-requires : tie.Need-take-requires Inv-loop μ-loop
+take-requires c κs = search needs
+
+add-i : tie.Need-add-i Inv-loop μ-loop
+add-i c = search needs
+
+loop-less : tie.Need-loop-less Inv-loop μ-loop
+loop-less c = search needs
+
+loop-again : tie.Need-loop-again Inv-loop μ-loop
+loop-again c = search needs
+
+returns : tie.Need-returns Inv-loop μ-loop
+returns c = search needs
+
+pub take-arguments-spec : {M : Type 1} → statement M
+take-arguments-spec =
+    tie.close
+    (tie.spec
+    Inv-loop
+    μ-loop
+    arg-count-requires
+    nothing-requires
+    loop-holds
+    buffer-requires
+    slice-aggregate-arg
+    arg-requires
+    array-share-prefix-word
+    slice-aggregate-take
+    take-requires
+    add-i
+    loop-less
+    loop-again
+    returns)

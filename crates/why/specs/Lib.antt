@@ -1,0 +1,7 @@
+pub mod Portions
+pub mod Each
+pub mod Words
+pub mod State
+pub mod Found
+pub mod Report
+pub mod Said

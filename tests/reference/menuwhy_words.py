@@ -1,0 +1,98 @@
+"""The words of the program `menuwhy`, by number.
+
+A, B, C and D stand for the first to fourth number of a phrase, P for the first with the name of
+the place of that number behind it, T for the first with the name of the transition.
+"""
+
+BAD_NAME, FIRST, STEP, START, END, TICK, NO_EVENT, EARLIER = 1, 2, 3, 4, 5, 6, 7, 8
+STANDS, MARK, RUN, OTHERS = 10, 15, 16, 17
+ACCEPTED, REFUSED, LACKS, START_OWED, END_OWED, BEHIND, OWED_END = 20, 21, 22, 23, 24, 25, 26
+LAST_BEFORE, NO_WAY_STARTED = 28, 29
+LAST_SAME, LAST_OTHER, MARK_OTHER, RUN_OTHER = 30, 31, 32, 33
+WALK_STOPS, NO_WAY, WALK_ENDS, MARK_FIRST, RUN_FIRST = 34, 35, 36, 37, 38
+LAST_REFUSED, NET_REFUSED, LOG_REFUSED = 39, 40, 41
+ACCEPTED_END, REFUSED_END = 50, 51
+EXPECTED, FAULT, BACK_WHY = 60, 100, 200
+
+WORDS = {
+    1: "names, line A: a line is place or transition, a number from 0 to 63 and a name of 1 to 40 bytes, one blank between them and none behind\n",
+    2: "step 0, from the beginning: ",
+    3: "step A, behind tick A, from event B: ",
+    4: "start T; ",
+    5: "end T at age B; ",
+    6: "tick; ",
+    7: "the bytes A B; ",
+    8: "earlier steps, not shown without --all: A\n",
+    11: "a start is owed\n",
+    12: "an end is owed\n",
+    13: "running, and free to tick\n",
+    14: "at rest\n",
+    15: "  place P holds B\n",
+    16: "  transition T runs at age B: C\n",
+    17: "  no other place holds a token, and nothing else runs\n",
+    20: "the log kept the rules: events A, ticks B\n",
+    21: "event A is refused, in step B (ticks before it: B): ",
+    22: "  place P lacks B\n",
+    23: "  owed: start T\n",
+    24: "  owed: end T\n",
+    25: "  events behind it, which were not run: A\n",
+    26: "  that is all that is owed\n",
+    28: "the last state is the one just before the refused event\n",
+    29: "  no lawful state leads to the last state by event A and those behind it, with that start before it; a fault is at that start, or behind it, or in the last state itself\n",
+    30: "the last state is the one that the log leads to\n",
+    31: "the last state is not the one that the log leads to\n",
+    32: "  place P holds B in the last state, and C behind the log\n",
+    33: "  transition T runs at age B: C in the last state, and D behind the log\n",
+    34: "walked back from the last state, the log stops at event A: ",
+    35: "  no lawful state leads to the last state by event A and those behind it; a fault is at event A, or behind it, or in the last state itself\n",
+    36: "walked back from the last state, the whole log begins in another state than the initial one\n",
+    37: "  place P holds B there, and C in the initial state\n",
+    38: "  transition T runs at age B: C there, and D in the initial state\n",
+    39: "the last state is refused by ",
+    40: "the net is refused by ",
+    41: "the log is refused by ",
+    50: "accepted\n",
+    51: "refused\n",
+    61: "  the file has A bytes; its version is C, and its length field says B\n",
+    62: "  it says places A, transitions B; each is 1 to 64\n",
+    63: "  expected: A bytes, for places B, transitions C; the file has D\n",
+    64: "  transition T: sfd B, lfd C; an lfd is at most 63\n",
+    65: "  expected: an input weight above 0\n",
+    66: "  expected: an output weight above 0\n",
+    68: "  expected: bytes A, places B, transitions C, ages D\n",
+    69: "  expected: bytes A, places B, transitions C, ages D\n",
+    70: "  the file has A bytes; its version is C, and its length field says B; a log has 5, and 2 for each event\n",
+    101: "1: a net has at least 7 bytes, version 1 and its own length in its length field\n",
+    102: "2: a net has 1 to 64 places and 1 to 64 transitions\n",
+    103: "3: a net is as long as its places and transitions ask for\n",
+    104: "4: transition T has an lfd that is below its sfd, or too long\n",
+    105: "5: transition T takes no token from any place\n",
+    106: "6: transition T gives no token to any place\n",
+    108: "8: version, length, places, transitions or ages are not those of a state of this net\n",
+    109: "9: transition T has a firing that is older than its lfd\n",
+    110: "10: a log has version 1, its own length in its length field, whole events, and at most 24000 of them\n",
+    111: "11: these bytes are no event\n",
+    112: "12: the net has no such transition\n",
+    113: "13: it is not enabled\n",
+    114: "14: 65535 firings of it have age 0 already\n",
+    115: "15: the age is below its sfd or above its lfd\n",
+    116: "16: no firing of it has that age\n",
+    117: "17: a place would hold more than 65535 tokens\n",
+    118: "18: no tick may pass while a start is owed\n",
+    119: "19: no tick may pass while an end is owed\n",
+    120: "20: no tick may pass where nothing runs\n",
+    128: "28: a firing of age 1 or more may not end behind a start of its step\n",
+    129: "29: no start may happen while a firing of age 1 or more is at its lfd\n",
+    211: "11: these bytes are no event\n",
+    212: "12: the net has no such transition\n",
+    215: "15: the age is below its sfd or above its lfd\n",
+    218: "18: a transition is enabled there, and no tick may pass while a start is owed\n",
+    220: "20: nothing runs there, and a tick leaves something running\n",
+    221: "21: a firing has age 0 there, and a tick leaves none\n",
+    224: "24: no firing of it has age 0 there, and a start leaves one\n",
+    225: "25: a place would have held more than 65535 tokens before it\n",
+    226: "26: a place holds fewer tokens there than this end gives\n",
+    227: "27: 65535 firings of it have that age there, and one more ran before it\n",
+    228: "28: a start stands before it in its step, and its age is 1 or more\n",
+    229: "29: a firing of age 1 or more is at its lfd there, and its end was owed before the start\n",
+}
