@@ -5,3 +5,5 @@ pub mod Order
 pub mod Endings
 pub mod Remaining
 pub mod Ready
+pub mod Whole
+pub mod Determined

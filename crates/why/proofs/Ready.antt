@@ -1,14 +1,13 @@
 -- What is found out first, and that the telling can begin behind it.
 -- Assumes nothing.
 use mathlib.Core.Path.{_≡_, refl, sym, ap, _∙_}
-use mathlib.Core.Bool.{Bool, true, false, cond}
+use mathlib.Core.Bool.{Bool, true, false}
 use mathlib.Core.List.{List, []}
 use Prim.Native.Nat.{ℕ, _+_}
 use native.Mathlib.Omega.{arith}
 use lib.Dec.{eqb}
 use lib.ListN.{length}
 use borrow.Author.Tests.{eq-eqb, ne-eqb}
-use Rattle.model.specs.declared.event.Event.{Event}
 use Rattle.model.specs.declared.net.Net.{Net as Shape}
 use Rattle.model.specs.Net.{State}
 use Rattle.model.specs.Run.{stay, run, startedAfter}
@@ -16,17 +15,16 @@ use Rattle.forms.specs.Word.{Bytes, byte}
 use Rattle.forms.specs.Stored.{netOf, stored, eventsIn, logEvents}
 use Rattle.forms.specs.Logs.{IsLog, eventCount}
 use Rattle.forms.specs.Frame.{Framed, Began}
-use Rattle.forms.specs.Written.{written}
 use Rattle.forms.proofs.Written.{written-own}
 use Rattle.runs.specs.declared.told.RunTold.{RunTold}
 use Rattle.runs.specs.declared.told.WalkTold.{WalkTold}
 use Rattle.runs.specs.Runs.{toldOfRun, ran}
 use Rattle.engine.specs.declared.examine.Examined.{Examined}
 use Rattle.engine.specs.declared.examine.Examined.the-variants as examined
-use Rattle.engine.specs.Examined.{examineNet, examineState, examineLog}
+use Rattle.engine.specs.Examined.{examineState, examineLog}
 use Rattle.engine.specs.declared.answers.Verdict.{Verdict}
 use Rattle.engine.specs.Calls.{eventsPart, stateTold, initialLeft, runTold, runLeft, walkTold, walkLeft}
-use Rattle.engine.specs.Demands.{Passes, LogRun}
+use Rattle.engine.specs.Demands.{Passes}
 use Rattle.engine.specs.Promised.{Fit}
 use Rattle.engine.proofs.Fits.{log-fits}
 use Rattle.engine.proofs.Faults.{examines}

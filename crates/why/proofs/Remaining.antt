@@ -3,8 +3,7 @@
 use mathlib.Core.Path.{_≡_, refl, sym, ap, subst, _∙_}
 use mathlib.Core.Bool.{Bool, true, false, cond}
 use mathlib.Core.List.{List, _∷_}
-use Prim.Native.Nat.{ℕ, zero, suc, _+_, _-_, _<_, _≤_}
-use native.Mathlib.Nat.{sub-self}
+use Prim.Native.Nat.{ℕ, suc, _+_, _-_, _<_, _≤_}
 use native.Mathlib.Omega.{arith}
 use lib.Dec.{eqb, ltb}
 use borrow.Author.Tests.{lt-ltb, le-ltb, ltb-true, ltb-false}
@@ -26,13 +25,13 @@ use Rattle.why.specs.declared.cursor.Part.the-variants as part
 use Rattle.why.specs.declared.cursor.Cursor.{Cursor}
 use Rattle.why.specs.declared.cursor.Said.{Said}
 use Rattle.why.specs.Words.{othersWord, owedEndWord}
-use Rattle.why.specs.Each.{nextFrom, eachFrom}
+use Rattle.why.specs.Each.{eachFrom}
 use Rattle.why.specs.State.{wordCount, held?, heldPhrase, owedMost, owes?, owedPhrase}
 use Rattle.why.specs.Found.{Ready}
-use Rattle.why.specs.Portions.{behind, Fed, FeedsTo, Feeds}
-use Rattle.why.specs.Report.{Given, plain, eventPhrase, lastStep, doneEvent, firstEvent, shown?, standsPhrase, reached, stateOn, eventsOn, stepsOn}
+use Rattle.why.specs.Portions.{behind, Fed}
+use Rattle.why.specs.Report.{Given, plain, eventPhrase, lastStep, doneEvent, shown?, standsPhrase, reached, stateOn, stepsOn}
 use Rattle.why.specs.Report.{verdictOn, walkOn, lastOn, behindOn, remainingAt, remaining}
-use Rattle.why.specs.Said.{said, goTo, atItem, opens, behindStep, earlierSaid, openSaid, eventsSaid, nextHeld, stateSaid, nextOwed, owedSaid}
+use Rattle.why.specs.Said.{goTo, behindStep, openSaid, eventsSaid, nextHeld, stateSaid, nextOwed, owedSaid}
 use Rattle.why.specs.Said.{outcomeSaid, whySaid, verdictSaid, endSaid, walkSaid, fitSaid, openingSaid, lastSaid, faultSaid}
 use Rattle.replay.specs.Replayed.{early?}
 use Rattle.why.specs.Said.{fromStep, beginning, begun}

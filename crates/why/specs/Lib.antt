@@ -5,3 +5,4 @@ pub mod State
 pub mod Found
 pub mod Report
 pub mod Said
+pub mod Whole

@@ -1,8 +1,8 @@
--- What menuwhy tells, phrase by phrase: the steps, how the log ended, how the last state stands to it.
+-- What menuwhy tells, phrase by phrase: the steps, how the log ended, how the last state stands to it. `xOn` is all that is told from x on.
 -- Assumes nothing.
-use mathlib.Core.Bool.{Bool, true, false, _&&_, _||_, not, cond}
+use mathlib.Core.Bool.{Bool, true, _&&_, _||_, not, cond}
 use mathlib.Core.List.{List, [], _∷_}
-use Prim.Native.Nat.{ℕ, zero, suc, _+_, _-_, _*_, _/_, min}
+use Prim.Native.Nat.{ℕ, zero, suc, _+_, _-_, _/_, min}
 use lib.Dec.{eqb, ltb}
 use lib.ListN.{length}
 use Rattle.model.specs.declared.event.Event.{Event}
@@ -142,7 +142,7 @@ faultOpening found = plain (cond (eqb (found .told .number) 10) logRefusedWord n
 abbrev pub meaning : ℕ → ℕ → Phrase
 meaning number t = phrase (whyWord + number) t 0 0 0
 
--- no lawful state leads to the last state by this event and those behind it; 28 is told for a start that stands before it
+-- no lawful state leads to the last state by this event and those behind it; for 28, not with the start that stands before it in its step
 abbrev pub noWayPhrase : Found → Phrase
 noWayPhrase found = phrase (cond (eqb (found .last .walk .number) 28) noWayStartedWord noWayWord) (found .last .walk .index) 0 0 0
 

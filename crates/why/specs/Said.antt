@@ -1,11 +1,11 @@
--- What one call tells and where it goes on, by the bytes that it is lent.
+-- What one call tells and where it goes on, by the bytes that it is lent (`xSaid`); and the statement of the crate: whatever is still to be told
+-- begins with that phrase (`Tells`), from wherever the telling stands (`Reached`).
 -- Assumes nothing.
 use mathlib.Core.Path.{_≡_}
 use mathlib.Core.Bool.{Bool, true, false, cond}
 use mathlib.Core.List.{List, _∷_}
-use Prim.Native.Nat.{ℕ, suc, _+_, _-_, _≤_}
+use Prim.Native.Nat.{ℕ, _+_, _-_, _≤_}
 use lib.Dec.{eqb, ltb}
-use Rattle.runs.specs.declared.told.RunTold.{RunTold}
 use Rattle.engine.specs.Calls.{owedTold, runTold}
 use Rattle.phrases.specs.declared.phrase.Phrase.{Phrase}
 use Rattle.phrases.specs.Phrase.{phrase}
@@ -203,14 +203,18 @@ AtStep g c step.Open = (c .step ≤ lastStep (g .found)) × (c .fed ≤ doneEven
 AtStep g c step.Events = (c .step ≤ lastStep (g .found)) × (c .fed ≡ doneEvent (g .log) (g .found) (c .step))
 AtStep g c step.State = (c .step ≤ lastStep (g .found)) × (c .fed ≡ doneEvent (g .log) (g .found) (c .step))
 
+-- nothing is asked of a place
+abbrev pub NothingAsked : Type 0
+NothingAsked = _≡_ {A = ℕ} 0 0
+
 -- the state is that behind the events of the step, or behind all that were done, wherever it is looked at
 abbrev pub ReachedAt : Given → List ℕ → Cursor → Part → Type 0
 ReachedAt g state c (part.Step p) = Going g state c × AtStep g c p
 ReachedAt g state c (part.Verdict p) = Going g state c × (c .fed ≡ g .found .told .done)
-ReachedAt g state c (part.Last p) = g .found .told .number ≡ g .found .told .number
-ReachedAt g state c (part.Fault p) = g .found .told .number ≡ g .found .told .number
-ReachedAt g state c part.End = g .found .told .number ≡ g .found .told .number
-ReachedAt g state c part.Over = g .found .told .number ≡ g .found .told .number
+ReachedAt g state c (part.Last p) = NothingAsked
+ReachedAt g state c (part.Fault p) = NothingAsked
+ReachedAt g state c part.End = NothingAsked
+ReachedAt g state c part.Over = NothingAsked
 
 abbrev pub Reached : Given → List ℕ → Cursor → Type 0
 Reached g state c = ReachedAt g state c (c .part)
@@ -228,10 +232,10 @@ over? c = overAt (c .part)
 
 -- what a step needs, and what it comes to: only its opening feeds
 abbrev pub StepsFrom : List ℕ → List ℕ → List ℕ → Found → Cursor → StepPart → Type 0
-StepsFrom net log state found c step.Earlier = c .fed ≡ c .fed
+StepsFrom net log state found c step.Earlier = NothingAsked
 StepsFrom net log state found c step.Open = FeedsTo net log state (c .fed) (doneEvent log found (c .step)) (c .started)
-StepsFrom net log state found c step.Events = c .fed ≡ c .fed
-StepsFrom net log state found c step.State = c .fed ≡ c .fed
+StepsFrom net log state found c step.Events = NothingAsked
+StepsFrom net log state found c step.State = NothingAsked
 
 -- neither the state nor the portion is written
 abbrev pub Kept : List ℕ → List ℕ → List ℕ → List ℕ → Type 0

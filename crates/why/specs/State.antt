@@ -37,7 +37,7 @@ mark? s i = ltb i (byte s 5)
 abbrev pub cellAt : List ℕ → ℕ → Cell
 cellAt s i = record { transition = (i - byte s 5) / max 1 (byte s 7); age = (i - byte s 5) % max 1 (byte s 7) }
 
--- what word i holds
+-- the phrase that says what word i holds
 unfoldable pub heldPhrase : List ℕ → ℕ → Phrase
 heldPhrase s i =
     cond (mark? s i) (phrase markWord i (held s i) 0 0) (phrase runWord (cellAt s i .transition) (cellAt s i .age) (held s i) 0)

@@ -12,7 +12,6 @@ use forms::words;
 use phrases::phrase::Phrase;
 ghost use mathlib.Core.Path.{_≡_};
 ghost use Prim.Native.Nat.{_+_, _<_};
-ghost use Rattle.forms.specs.Word.{byte};
 ghost use Rattle.why.specs.Report.{rowOf, expectedOf, faultOpening};
 ghost use Rattle.why.specs.Said.{faultSaid};
 

@@ -13,7 +13,7 @@ pub const NO_EVENT: usize = 7;
 
 pub const EARLIER: usize = 8;
 
-// And the standing, 1 to 4.
+// Plus the standing: 11 to 14.
 pub const STANDS: usize = 10;
 
 pub const MARK: usize = 15;
@@ -68,7 +68,7 @@ pub const ACCEPTED_END: usize = 50;
 
 pub const REFUSED_END: usize = 51;
 
-// And document 01's number: what was expected, what the number means, and what it means in a walk back.
+// Plus document 01's number: what was expected, what the number means, and what it means in a walk back.
 pub const EXPECTED: usize = 60;
 
 pub const WHY: usize = 100;

@@ -1,9 +1,5 @@
 -- `telling::begin` meets its contract: where the telling begins all that is found is still to be told.
 -- Assumes nothing.
-use mathlib.Core.Path.{_≡_, refl, ap, _∙_}
-use Rattle.why.specs.declared.found.Found.{Found}
-use Rattle.why.specs.declared.cursor.Cursor.{Cursor}
-use Rattle.why.specs.Said.{begun}
 use Rattle.why.proofs.Remaining.{begins-well, begun-so}
 use borrow.Author.Needs.{needs}
 use Rattle.why.proofs.telling.begin.Statement.{statement}
