@@ -62,10 +62,16 @@ module _ (net log state portion : List ℕ) (found : Found) (wish : Wish) (c : C
   goes-once part.Over x y = kept-once x y
 
 pub next-determined : Determined 4 next-kinds.ps next-kinds.r next.Learnt
-next-determined κs args x y s s′ p q = goes-once _ _ _ _ _ _ _ x y _ _ _ _ _ (p .0) (q .0) .0
+next-determined κs args x y s s′ p q =
+    goes-once (now (args .0)) (now (args .1 .0)) (now (args .1 .1 .0)) (now (args .1 .1 .1 .0)) (args .1 .1 .1 .1 .0) (args .1 .1 .1 .1 .1 .0) (args .1 .1 .1 .1 .1 .1 .0) x y
+    (now (s .1 .1 .0)) (now (s′ .1 .1 .0)) (now (s .1 .1 .1 .0)) (now (s′ .1 .1 .1 .0)) (args .1 .1 .1 .1 .1 .1 .0 .part) (p .0) (q .0) .0
 
 pub next-leaves : LeavesOne 4 next-kinds.ps next-kinds.r next.Learnt (λ κs s. now (s .1 .1 .0))
-next-leaves κs args x y s s′ p q = goes-once _ _ _ _ _ _ _ x y _ _ _ _ _ (p .0) (q .0) .1
+next-leaves κs args x y s s′ p q =
+    goes-once (now (args .0)) (now (args .1 .0)) (now (args .1 .1 .0)) (now (args .1 .1 .1 .0)) (args .1 .1 .1 .1 .0) (args .1 .1 .1 .1 .1 .0) (args .1 .1 .1 .1 .1 .1 .0) x y
+    (now (s .1 .1 .0)) (now (s′ .1 .1 .0)) (now (s .1 .1 .1 .0)) (now (s′ .1 .1 .1 .0)) (args .1 .1 .1 .1 .1 .1 .0 .part) (p .0) (q .0) .1
 
 pub next-leaves-portion : LeavesOne 4 next-kinds.ps next-kinds.r next.Learnt (λ κs s. now (s .1 .1 .1 .0))
-next-leaves-portion κs args x y s s′ p q = goes-once _ _ _ _ _ _ _ x y _ _ _ _ _ (p .0) (q .0) .2
+next-leaves-portion κs args x y s s′ p q =
+    goes-once (now (args .0)) (now (args .1 .0)) (now (args .1 .1 .0)) (now (args .1 .1 .1 .0)) (args .1 .1 .1 .1 .0) (args .1 .1 .1 .1 .1 .0) (args .1 .1 .1 .1 .1 .1 .0) x y
+    (now (s .1 .1 .0)) (now (s′ .1 .1 .0)) (now (s .1 .1 .1 .0)) (now (s′ .1 .1 .1 .0)) (args .1 .1 .1 .1 .1 .1 .0 .part) (p .0) (q .0) .2
