@@ -4,6 +4,7 @@ pub mod Stepping
 pub mod Order
 pub mod Endings
 pub mod Remaining
+pub mod Beginning
 pub mod Ready
 pub mod Whole
 pub mod Determined

@@ -6,7 +6,7 @@ use mathlib.Core.List.{List, _∷_}
 use Prim.Native.Nat.{ℕ, suc, _+_, _-_, _<_, _≤_}
 use native.Mathlib.Omega.{arith}
 use lib.Dec.{eqb, ltb}
-use borrow.Author.Tests.{lt-ltb, le-ltb, ltb-true, ltb-false}
+use borrow.Author.Tests.{ltb-true, ltb-false}
 use Rattle.engine.specs.Calls.{owedTold, runTold}
 use Rattle.phrases.specs.declared.phrase.Phrase.{Phrase}
 use Rattle.runs.specs.declared.told.RunTold.{RunTold}
@@ -27,20 +27,17 @@ use Rattle.why.specs.declared.cursor.Said.{Said}
 use Rattle.why.specs.Words.{othersWord, owedEndWord}
 use Rattle.why.specs.Each.{eachFrom}
 use Rattle.why.specs.State.{wordCount, held?, heldPhrase, owedMost, owes?, owedPhrase}
-use Rattle.why.specs.Found.{Ready}
 use Rattle.why.specs.Portions.{behind, Fed}
 use Rattle.why.specs.Report.{Given, plain, eventPhrase, lastStep, doneEvent, shown?, standsPhrase, reached, stateOn, stepsOn}
 use Rattle.why.specs.Report.{verdictOn, walkOn, lastOn, behindOn, remainingAt, remaining}
 use Rattle.why.specs.Said.{goTo, behindStep, openSaid, eventsSaid, nextHeld, stateSaid, nextOwed, owedSaid}
 use Rattle.why.specs.Said.{outcomeSaid, whySaid, verdictSaid, endSaid, walkSaid, fitSaid, openingSaid, lastSaid, faultSaid}
-use Rattle.replay.specs.Replayed.{early?}
-use Rattle.why.specs.Said.{fromStep, beginning, begun}
 use Rattle.why.specs.Said.{GoesOn, Going, ReachedAt, Reached, StepsFrom, StepsTo, overAt, over?, given, Tells}
 use Rattle.why.proofs.Nexts.{each-turn, each-over, each-all, each-none}
 use Rattle.why.proofs.Order.{done-most, done-later, done-last}
 
 -- a test passes, or it fails
-by-test : {A : Type 0} (b : Bool) → (b ≡ true → A) → (b ≡ false → A) → A
+pub by-test : {A : Type 0} (b : Bool) → (b ≡ true → A) → (b ≡ false → A) → A
 by-test true yes-so no-so = yes-so refl
 by-test false yes-so no-so = no-so refl
 
@@ -314,60 +311,6 @@ pub not-over : (c : Cursor) → over? c ≡ false → c .part ≡ part.Over → 
 not-over c e at =
     let z : _≡_ {A = ℕ} 1 0 = ap (λ (b : Bool). cond b 1 0) (sym (ap overAt at) ∙ e) in
     absurd (omega arith)
-
--- WHERE IT BEGINS
-
-module _ (found : Found) (wish : Wish) where
-  pub from-all : wish .all ≡ true → 0 ≡ fromStep found wish
-  unfolding fromStep
-  from-all e = rw e refl
-
-  pub from-few : wish .all ≡ false → found .told .ticks < 3 → 0 ≡ fromStep found wish
-  unfolding fromStep
-  from-few e h = rw e (omega arith)
-
-  pub from-later : wish .all ≡ false → found .told .ticks - 2 ≡ fromStep found wish
-  unfolding fromStep
-  from-later e = rw e (omega arith)
-
-  module _ (from : ℕ) (is : from ≡ fromStep found wish) where
-    pub begins-faulty : early? (found .told .number) ≡ true → record { part = part.Fault fault.Opening; step = from; item = 0; fed = 0; started = false } ≡ beginning found wish
-    unfolding beginning
-    begins-faulty e = rw (e, is) refl
-
-    pub begins-later : early? (found .told .number) ≡ false → 0 < from
-        → record { part = part.Step step.Earlier; step = from; item = 0; fed = 0; started = false } ≡ beginning found wish
-    unfolding beginning
-    begins-later e h = rw (e, ← is, lt-ltb 0 from h) refl
-
-    pub begins-first : early? (found .told .number) ≡ false → from ≤ 0
-        → record { part = part.Step step.Open; step = from; item = 0; fed = 0; started = false } ≡ beginning found wish
-    unfolding beginning
-    begins-first e h = rw (e, ← is, le-ltb 0 from h) refl
-
-from-within : (found : Found) (wish : Wish) → fromStep found wish ≤ lastStep found
-unfolding fromStep
-from-within found wish = by-test (wish .all) (λ e. rw e (omega arith)) (λ e. rw e (omega arith))
-
--- there nothing has been fed, and all is still to be told
-pub begins-well : (net log state : List ℕ) (found : Found) (wish : Wish) → Ready net log state found
-    → Reached (given net log state found wish) state (beginning found wish)
-unfolding beginning
-begins-well net log state found wish is =
-    by-test (early? (found .told .number))
-    (λ e. rw e refl)
-    (λ e.
-    let (told, fed) = is e in
-    let c : Cursor = beginning found wish in
-    let going : (p : Part) → Going (given net log state found wish) state (record { part = p; step = fromStep found wish; item = 0; fed = 0; started = false }) =
-    λ p. record { fed = fed; told-is = told; late = e } in
-    by-test (ltb 0 (fromStep found wish))
-    (λ f. rw (e, f) (going (part.Step step.Earlier), (from-within found wish, omega arith)))
-    (λ f. rw (e, f) (going (part.Step step.Open), (from-within found wish, omega arith))))
-
-pub begun-so : (found : Found) (c : Cursor) (is : Found) (wish : Wish) → found ≡ is → c ≡ beginning found wish
-    → record { found = found; cursor = c } ≡ begun is wish
-begun-so found c is wish e f = rw (f, e) refl
 
 -- a call goes on by the part that the cursor has
 pub goes-so : (net log state portion : List ℕ) (found : Found) (wish : Wish) (c : Cursor) (p : Part) → c .part ≡ p → (r : Said) (state′ portion′ : List ℕ)

@@ -1,6 +1,6 @@
 -- `telling::begin` meets its contract: where the telling begins all that is found is still to be told.
 -- Assumes nothing.
-use Rattle.why.proofs.Remaining.{begins-well, begun-so}
+use Rattle.why.proofs.Beginning.{begins-well, begun-so}
 use borrow.Author.Needs.{needs}
 use Rattle.why.proofs.telling.begin.Statement.{statement}
 use Rattle.why.proofs.telling.begin.Tie as tie

@@ -1,7 +1,7 @@
 -- `telling::first` meets its contract.
 -- Assumes nothing.
 use Rattle.why.proofs.Stepping.{is-so}
-use Rattle.why.proofs.Remaining.{begins-faulty, begins-later, begins-first}
+use Rattle.why.proofs.Beginning.{begins-faulty, begins-later, begins-first}
 use borrow.Author.Needs.{needs}
 use Rattle.why.proofs.telling.first.Statement.{statement}
 use Rattle.why.proofs.telling.first.Tie as tie

@@ -1,6 +1,6 @@
 -- `telling::from_step` meets its contract.
 -- Assumes nothing.
-use Rattle.why.proofs.Remaining.{from-all, from-few, from-later}
+use Rattle.why.proofs.Beginning.{from-all, from-few, from-later}
 use borrow.Author.Needs.{needs}
 use Rattle.why.proofs.telling.from_step.Statement.{statement}
 use Rattle.why.proofs.telling.from_step.Tie as tie
