@@ -1,6 +1,7 @@
 // Tells where a row went astray: takes a net, a log and perhaps a box's last state, each a file, and prints the steps of the log, the event that is
 // refused and why, and how the last state stands to it. What is told, phrase by phrase, is decided and proved in the crate why, and how a
 // phrase becomes text in the crate phrases. Here are the words, and what reads and writes.
+mod meanings;
 mod table;
 
 use libc::STDERR_FILENO;
@@ -16,6 +17,7 @@ ghost use Prim.Native.Nat.{_+_, _≤_};
 ghost use mathlib.Core.Path.{_≡_};
 ghost use lib.ListN.{length};
 ghost use Rattle.why.specs.Said.{given, Reached};
+ghost use Rattle.menuwhy.specs.Room.{phraseMost};
 
 // The words of a line of names that cannot be read.
 const BAD_NAME: usize = 1;
@@ -75,8 +77,8 @@ fn flush(out: &[u8], end: usize)
 
 // Where the next phrase goes: behind the last one, or at the front once the buffer is written, where it might not have room for one more.
 fn make_room(out: &[u8], end: usize) -> usize
-    requires { ⌜ (end ≤ length (now out)) × (15616 ≤ length (now out)) ⌝ }
-    ensures { λ r. ⌜ r + 15616 ≤ length (now (out .entry)) ⌝ }
+    requires { ⌜ (end ≤ length (now out)) × (phraseMost ≤ length (now out)) ⌝ }
+    ensures { λ r. ⌜ r + phraseMost ≤ length (now (out .entry)) ⌝ }
 {
     if out.len() - end < table::PHRASE_MOST {
         flush(out, end);
@@ -87,7 +89,7 @@ fn make_room(out: &[u8], end: usize) -> usize
 
 // Tells the lines of the file of names that cannot be read. (No line's number is above the length of the file, for a bad line has bytes.)
 fn tell_bad_names(names: &[u8], out: &mut [u8])
-    requires { ⌜ 15616 ≤ length (now out) ⌝ }
+    requires { ⌜ phraseMost ≤ length (now out) ⌝ }
     ensures { λ _. ⌜ length (now (out .exit)) ≡ length (now (out .entry)) ⌝ }
 {
     let mut line = 0;
@@ -114,7 +116,7 @@ fn tell_all(
     out: &mut [u8],
 )
     requires { ⌜ Reached (given (now net) (now log) (now state) (begun .found) wish) (now state) (begun .cursor) ⌝ }
-    requires { ⌜ (length (now log) ≤ length (now portion)) × (15616 ≤ length (now out)) ⌝ }
+    requires { ⌜ (length (now log) ≤ length (now portion)) × (phraseMost ≤ length (now out)) ⌝ }
 {
     let found = begun.found;
     let mut cursor = begun.cursor;
@@ -142,7 +144,7 @@ fn read_if_given(i: usize, buf: &mut [u8]) -> usize
 
 // Tells what there is to tell of the files.
 fn tell(net: &[u8], log: &[u8], last: &mut [u8], names: &[u8], asked: Asked, out: &mut [u8])
-    requires { ⌜ (length (now log) ≤ 65536) × (15616 ≤ length (now out)) ⌝ }
+    requires { ⌜ (length (now log) ≤ 65536) × (phraseMost ≤ length (now out)) ⌝ }
 {
     let mut state = io::large_buffer();
     let mut portion = io::large_buffer();
