@@ -15,7 +15,7 @@ use model::age::Age;
 use model::net::Net;
 
 // What comes of weighing: the total; a transition whose outputs weigh other than its inputs, the lowest; or the weights are not 2P bytes.
-#[derive(Drop)]
+#[derive(Clone, Copy)]
 pub enum Weighing {
     Total(u64),
     Unbalanced(usize),

@@ -8,14 +8,14 @@ use model::answer::{Answer, Short};
 use owed::report::{Owed, OwedSet};
 
 // Document 01's number, and the transition for 4, 5, 6 and 9.
-#[derive(Drop)]
+#[derive(Clone, Copy)]
 pub struct Verdict {
     pub number: u8,
     pub index: usize,
 }
 
 // And the place that is short, which 13 alone tells.
-#[derive(Drop)]
+#[derive(Clone, Copy)]
 pub struct EventTold {
     pub number: u8,
     pub index: usize,
@@ -23,7 +23,7 @@ pub struct EventTold {
 }
 
 // And how many times a transition is enabled.
-#[derive(Drop)]
+#[derive(Clone, Copy)]
 pub struct DegreeTold {
     pub number: u8,
     pub index: usize,
@@ -31,7 +31,7 @@ pub struct DegreeTold {
 }
 
 // And what a state owes: the starts, the ends, and document 01's number for the standing.
-#[derive(Drop)]
+#[derive(Clone, Copy)]
 pub struct OwedTold {
     pub number: u8,
     pub index: usize,
@@ -41,7 +41,7 @@ pub struct OwedTold {
 }
 
 // And where a step of a log stands in it.
-#[derive(Drop)]
+#[derive(Clone, Copy)]
 pub struct StepTold {
     pub number: u8,
     pub index: usize,

@@ -7,7 +7,7 @@ use forms::{log, net, state};
 use model::net::Net;
 
 // All is well, and the net has this shape; or the first fault.
-#[derive(Drop)]
+#[derive(Clone, Copy)]
 pub enum Examined {
     Fit(Net),
     Unfit(Fault),

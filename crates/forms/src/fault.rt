@@ -3,7 +3,7 @@ ghost use Rattle.std.specs.Prelude.{◌≡◌};
 ghost use Rattle.forms.specs.Checked.{number_of, index_of, number_of_fault, index_of_fault};
 
 // What is wrong with the bytes of a net, a state or a log. A transition is told where one is at fault.
-#[derive(Drop)]
+#[derive(Clone, Copy)]
 pub enum Fault {
     // 1: a net's version or length.
     NetFrame,
@@ -62,7 +62,7 @@ impl Fault {
 }
 
 // What a check answers.
-#[derive(Drop)]
+#[derive(Clone, Copy)]
 pub enum Checked {
     Good,
     Bad(Fault),

@@ -1,4 +1,6 @@
 // The stored forms of nets, states and logs: words, places, the checks (numbers 1 to 10), the initial state.
+#![tactic(auto)]
+
 pub mod begins;
 pub mod fault;
 pub mod initial;

@@ -3,6 +3,7 @@
 // every call and no struct's layout is agreed upon twice. None asks anything of the bytes that it is given, and the last clause of each
 // contract is the call's promise, of these very numbers and bytes. `started` is 0 where no start has happened in the step, and any other number
 // where one has.
+#![tactic(auto)]
 ghost use Rattle.std.specs.Prelude.{◌≡◌};
 ghost use Rattle.engine.specs.Calls.{net_told, state_told, initial_told, initial_left, event_told, event_left, back_told, back_left};
 ghost use Rattle.engine.specs.Calls.{degree_told, owed_told, run_told, run_left, walk_told, walk_left, step_told};

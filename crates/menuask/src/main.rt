@@ -1,5 +1,6 @@
 // Answers requests for any call of the engine, one line for each (docs/ASK.md). Every byte of a line is promised by `answer`; what is read
 // and written no contract can say, so here is only that.
+#![tactic(auto)]
 mod answer;
 mod request;
 

@@ -8,7 +8,7 @@ use libc::STDIN_FILENO;
 
 // What a request of some kind has, in this order: slices, so many numbers, and the number that says whether a start has happened in the step. The
 // third slice is a log, the buffer for one, or weights.
-#[derive(Drop)]
+#[derive(Clone, Copy)]
 pub struct Parts {
     pub net: bool,
     pub state: bool,
@@ -18,14 +18,14 @@ pub struct Parts {
 }
 
 // A number, or the length of a slice; and whether the request is fine up to here: it was, and all of this part arrived and has room.
-#[derive(Drop)]
+#[derive(Clone, Copy)]
 pub struct Part {
     pub fine: bool,
     pub value: usize,
 }
 
 // The lengths of a request's slices, which stand at the front of their buffers, its numbers, and whether it is fine as a whole.
-#[derive(Drop)]
+#[derive(Clone, Copy)]
 pub struct Request {
     pub fine: bool,
     pub net: usize,

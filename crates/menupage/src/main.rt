@@ -1,6 +1,7 @@
 // Reads a net from standard input, builds its page, and prints how that ended; with `--log` it writes the page's log, and the lines to standard
 // error. What the arguments ask for, what is told, and every byte of the log and the lines, is decided and proved in the crates pageshow, runner
 // and replay. Here is only what reads and writes.
+#![tactic(auto)]
 ghost use Rattle.std.specs.Prelude.{◌+◌, ◌≤◌, length};
 ghost use Rattle.replay.specs.Replayed.{longest_state};
 ghost use Rattle.replay.specs.Lines.{least_buffer};

@@ -1,5 +1,6 @@
 // Reads a net and then a log from standard input, runs the log from the net's initial state, and prints how it ended. What is told, and
 // every byte of the lines, is decided and proved in the crate replay. Here is only what reads and writes.
+#![tactic(auto)]
 ghost use Rattle.std.specs.Prelude.{◌≤◌, length};
 ghost use Rattle.replay.specs.Replayed.{enough, longest_state};
 ghost use Rattle.replay.specs.Lines.{least_buffer};

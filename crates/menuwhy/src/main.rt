@@ -1,6 +1,7 @@
 // Tells where a row went astray: takes a net, a log and perhaps a box's last state, each a file, and prints the steps of the log, the event that is
 // refused and why, and how the last state stands to it. What is told, phrase by phrase, is decided and proved in the crate why, and how a
 // phrase becomes text in the crate phrases. Here are the words, and what reads and writes.
+#![tactic(auto)]
 mod meanings;
 mod table;
 

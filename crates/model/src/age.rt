@@ -4,11 +4,11 @@ ghost use Rattle.std.specs.Prelude.{◌≡◌, ◌<◌, ◌≤◌};
 ghost use Rattle.model.specs.Age.{column_of, age_of};
 
 // How many ticks a firing has seen. An age is one byte of an event.
-#[derive(Drop)]
+#[derive(Clone, Copy)]
 pub struct Age(pub u8);
 
 // A column of the clock matrix: 1 for age 0, and 256 for the oldest age that a byte can name.
-#[derive(Drop)]
+#[derive(Clone, Copy)]
 pub struct Column(pub u16);
 
 impl Age {

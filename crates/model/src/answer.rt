@@ -4,7 +4,7 @@ ghost use Rattle.model.specs.Answer.{nothing_short, number_of_barrier, number_of
 
 // A place that lacks tokens, and how many it lacks. A byte would be enough for either; but of so small an answer the compiler makes one
 // number, piece by piece, at every event.
-#[derive(Drop)]
+#[derive(Clone, Copy)]
 pub struct Short {
     pub place: u32,
     pub lacks: u32,
@@ -20,7 +20,7 @@ impl Short {
 }
 
 // Why an event is not taken back: the reasons that are never told of an event done.
-#[derive(Drop)]
+#[derive(Clone, Copy)]
 pub enum Barrier {
     // 21: of a tick. A firing has age 0.
     SomeFresh,
@@ -47,7 +47,7 @@ impl Barrier {
 }
 
 // Why an event is not done or not taken back.
-#[derive(Drop)]
+#[derive(Clone, Copy)]
 pub enum Refusal {
     // 11: the two bytes are no event.
     Malformed,
@@ -114,7 +114,7 @@ impl Refusal {
 }
 
 // The answer to one event, and to one event taken back.
-#[derive(Drop)]
+#[derive(Clone, Copy)]
 pub enum Answer {
     Done,
     Refused(Refusal),
@@ -141,7 +141,7 @@ impl Answer {
 }
 
 // How a state stands: what must happen next. The first that holds is told.
-#[derive(Drop)]
+#[derive(Clone, Copy)]
 pub enum Standing {
     StartOwed,
     EndOwed,

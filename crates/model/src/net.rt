@@ -4,7 +4,7 @@ ghost use Rattle.std.specs.Prelude.{◌≡◌};
 ghost use Rattle.model.specs.Limits.{shape_of, is_sized, is_interval, is_logged, is_held};
 
 // How many places and transitions a net has, and how wide its clock matrix is.
-#[derive(Drop)]
+#[derive(Clone, Copy)]
 pub struct Net {
     pub places: usize,
     pub transitions: usize,

@@ -19,7 +19,7 @@ use model::net::Net;
 use owed::{counts, starts};
 
 // What is known of the step that an event stands in, in the state before it.
-#[derive(Drop)]
+#[derive(Clone, Copy)]
 pub struct Step {
     // A start has happened in it.
     pub started: bool,

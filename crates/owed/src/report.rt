@@ -12,7 +12,7 @@ use model::answer::Standing;
 use model::net::Net;
 
 // A set of transitions: bit t of the word says that t is one of them; how many there are; the lowest, or 64.
-#[derive(Drop)]
+#[derive(Clone, Copy)]
 pub struct OwedSet {
     pub word: u64,
     pub count: u32,
@@ -20,7 +20,7 @@ pub struct OwedSet {
 }
 
 // The transitions whose start is owed, those whose end is owed, and how the state stands.
-#[derive(Drop)]
+#[derive(Clone, Copy)]
 pub struct Owed {
     pub starts: OwedSet,
     pub ends: OwedSet,

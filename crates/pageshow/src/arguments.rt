@@ -11,7 +11,7 @@ const DIGITS_MOST: usize = 10;
 const BUDGET_MOST: usize = 4294967295;
 
 // What one word says.
-#[derive(Drop)]
+#[derive(Clone, Copy)]
 pub enum Word {
     Log,
     Budget(usize),
@@ -19,14 +19,14 @@ pub enum Word {
 }
 
 // The log is wanted on standard output, and the page has at most so many events.
-#[derive(Drop)]
+#[derive(Clone, Copy)]
 pub struct Wish {
     pub log: bool,
     pub budget: usize,
 }
 
 // What all of the words ask for.
-#[derive(Drop)]
+#[derive(Clone, Copy)]
 pub enum Asked {
     Page(Wish),
     Misuse,

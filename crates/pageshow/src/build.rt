@@ -13,7 +13,7 @@ use runner::call;
 
 // The number of the page's stop, the length of its log in bytes, and the fields of menurun's first line. Where the net is refused the
 // first two are 0.
-#[derive(Drop)]
+#[derive(Clone, Copy)]
 pub struct Built {
     pub stop: u8,
     pub log: usize,

@@ -11,7 +11,7 @@ use replay::sheet::Sheet;
 use text::line;
 
 // What is to be written: the page's log, which has so many bytes, or the lines, of which the sheet is the first buffer.
-#[derive(Drop)]
+#[derive(Clone, Copy)]
 pub struct Output {
     pub log: usize,
     pub sheet: Sheet,

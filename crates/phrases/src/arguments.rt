@@ -6,7 +6,7 @@ ghost use Rattle.phrases.specs.Arguments.{nothing, is_complete, misused, option_
 use crate::bytes;
 
 // A file is told by the number of its argument, counted from 1, and by 0 where there is none.
-#[derive(Drop)]
+#[derive(Clone, Copy)]
 pub struct Asked {
     pub all: bool,
     pub states: bool,

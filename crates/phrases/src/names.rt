@@ -14,21 +14,21 @@ const NUMBER_MOST: usize = 63;
 pub const NAME_MOST: usize = 40;
 
 // What a name belongs to.
-#[derive(Drop)]
+#[derive(Clone, Copy)]
 pub enum Kind {
     Place,
     Transition,
 }
 
 // A part of the file.
-#[derive(Drop)]
+#[derive(Clone, Copy)]
 pub struct Named {
     pub from: usize,
     pub to: usize,
 }
 
 // What a line says: the number, and how many bytes its name has. The name stands at the line's end; where the line names nothing, it has none.
-#[derive(Drop)]
+#[derive(Clone, Copy)]
 struct Thing {
     pub number: usize,
     pub length: usize,

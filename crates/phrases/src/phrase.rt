@@ -2,7 +2,7 @@
 ghost use Rattle.std.specs.Prelude.{◌≡◌};
 ghost use Rattle.phrases.specs.Phrase.{phrase};
 
-#[derive(Drop)]
+#[derive(Clone, Copy)]
 pub struct Phrase {
     pub word: usize,
     pub first: usize,

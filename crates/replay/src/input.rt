@@ -11,7 +11,7 @@ use model::answer::Short;
 pub const LAST_EARLY: u8 = 10;
 
 // The fields of menurun's first line.
-#[derive(Drop)]
+#[derive(Clone, Copy)]
 pub struct Replayed {
     pub number: u8,
     pub index: usize,

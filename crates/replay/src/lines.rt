@@ -18,7 +18,7 @@ use text::line;
 pub const RUN_MOST: usize = 3 + 3 * line::FIELD_MOST + 1;
 
 // How far the lines of the counts have come: the place behind the last of them, and the cell whose line is to come.
-#[derive(Drop)]
+#[derive(Clone, Copy)]
 pub struct Filled {
     pub end: usize,
     pub next: usize,

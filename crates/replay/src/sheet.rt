@@ -8,7 +8,7 @@ use crate::input::Replayed;
 use crate::{input, lines};
 
 // The place behind the last line, the cell whose line is to come, and how many cells are looked at; `print` goes on from there.
-#[derive(Drop)]
+#[derive(Clone, Copy)]
 pub struct Sheet {
     pub end: usize,
     pub next: usize,

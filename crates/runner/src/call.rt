@@ -13,7 +13,7 @@ use forms::places;
 
 // Document 01's number, and as index the transition for 4, 5, 6 and 9 and else 0; the number of the stop, the events done, and the ticks
 // among them, all three 0 on a refusal.
-#[derive(Drop)]
+#[derive(Clone, Copy)]
 pub struct PageTold {
     pub number: u8,
     pub index: usize,

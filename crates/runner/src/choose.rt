@@ -13,7 +13,7 @@ use model::event::Event;
 use model::net::Net;
 use owed::{counts, starts};
 
-#[derive(Drop)]
+#[derive(Clone, Copy)]
 pub enum Next {
     Rest,
     Chosen(Event),

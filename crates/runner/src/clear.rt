@@ -5,7 +5,7 @@ ghost use Rattle.runner.specs.Chosen.{clear_of, clear_after};
 use model::event::Event;
 
 // No transition below `ends` owes an end, and none below `starts` is enabled. Where `starts` is all of them, something is running.
-#[derive(Drop)]
+#[derive(Clone, Copy)]
 pub struct Clear {
     pub ends: usize,
     pub starts: usize,

@@ -5,7 +5,7 @@ ghost use Rattle.runner.specs.Stop.{number_of_stop, stop_for};
 use model::event::Event;
 
 // The first that holds is told.
-#[derive(Drop)]
+#[derive(Clone, Copy)]
 pub enum Stop {
     AtRest,
     BudgetSpent,

@@ -8,7 +8,7 @@ use model::answer::Short;
 // Of a run: document 01's number and index, how many events were done, how many of them were ticks, the place that is short, which 13
 // alone tells, and whether a start has happened in the step of the state that is left, which is false for 1 to 10. The index is the event refused;
 // the transition for 4, 5, 6 and 9; of an accepted run the number of events; and else 0.
-#[derive(Drop)]
+#[derive(Clone, Copy)]
 pub struct RunTold {
     pub number: u8,
     pub index: usize,
@@ -21,7 +21,7 @@ pub struct RunTold {
 // Of a walk back: number and index, how many events were taken back, and how many of them were ticks. The index is the
 // event refused, counted from the log's front; the transition for 4, 5, 6 and 9; of an accepted walk the number of events that were not taken
 // back; and else 0.
-#[derive(Drop)]
+#[derive(Clone, Copy)]
 pub struct WalkTold {
     pub number: u8,
     pub index: usize,

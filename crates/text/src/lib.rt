@@ -1,2 +1,3 @@
 // Lines of text, built in a lent buffer.
+#![tactic(auto)]
 pub mod line;

@@ -5,7 +5,7 @@ ghost use Rattle.why.specs.Said.{said, go_to, at_item, opens};
 use phrases::phrase::Phrase;
 
 // Of a step: that earlier ones are not shown; its opening; its events, and how the state behind it stands; what that state holds.
-#[derive(Drop)]
+#[derive(Clone, Copy)]
 pub enum StepPart {
     Earlier,
     Open,
@@ -14,7 +14,7 @@ pub enum StepPart {
 }
 
 // Of how the log ended: whether it was accepted; the refused event, and why; the place that is short; what is owed; the events behind it.
-#[derive(Drop)]
+#[derive(Clone, Copy)]
 pub enum VerdictPart {
     Outcome,
     Event,
@@ -25,7 +25,7 @@ pub enum VerdictPart {
 }
 
 // Of the last state: whether it fits; where it differs; the walk back from it; where that ends.
-#[derive(Drop)]
+#[derive(Clone, Copy)]
 pub enum LastPart {
     Opening,
     Check,
@@ -39,14 +39,14 @@ pub enum LastPart {
 }
 
 // Of a net or a log that is refused.
-#[derive(Drop)]
+#[derive(Clone, Copy)]
 pub enum FaultPart {
     Opening,
     Why,
     Expected,
 }
 
-#[derive(Drop)]
+#[derive(Clone, Copy)]
 pub enum Part {
     Step(StepPart),
     Verdict(VerdictPart),
@@ -58,7 +58,7 @@ pub enum Part {
 
 // The part, the step and the item within it that are to come; how many events have been fed, and whether a start has happened in the step of the
 // state that they led to.
-#[derive(Drop)]
+#[derive(Clone, Copy)]
 pub struct Cursor {
     pub part: Part,
     pub step: usize,
@@ -68,7 +68,7 @@ pub struct Cursor {
 }
 
 // A phrase, and where to go on.
-#[derive(Drop)]
+#[derive(Clone, Copy)]
 pub struct Said {
     pub phrase: Phrase,
     pub cursor: Cursor,

@@ -1,5 +1,6 @@
 // What the program menuwhy decides: which portions of a log are fed to the engine, and which phrases are told of them, in which order. What a
 // phrase says in words is the program's.
+#![tactic(auto)]
 mod bytes;
 pub mod cursor;
 mod events;

@@ -9,14 +9,14 @@ use forms::places;
 use phrases::phrase::Phrase;
 
 // A transition and an age.
-#[derive(Drop)]
+#[derive(Clone, Copy)]
 pub struct Cell {
     pub transition: usize,
     pub age: usize,
 }
 
 // The first word in which two states differ, and what it holds in the one and in the other.
-#[derive(Drop)]
+#[derive(Clone, Copy)]
 pub struct Difference {
     pub same: bool,
     pub at: usize,

@@ -13,7 +13,7 @@ use phrases::phrase::Phrase;
 use replay::input;
 
 // What was found out, and where the telling begins.
-#[derive(Drop)]
+#[derive(Clone, Copy)]
 pub struct Begun {
     pub found: Found,
     pub cursor: Cursor,
