@@ -17,7 +17,6 @@ use Rattle.model.proofs.Tab.{both-tell, all-tells}
 use Rattle.model.proofs.Tests.{tells_as, leb_tells, eqb_tells, not-tells, sized-tells, interval-tells, some-fails}
 use Rattle.forms.specs.declared.fault.Fault.{Fault}
 use Rattle.forms.specs.declared.fault.Fault.TheVariants as fault
-use Rattle.forms.specs.declared.fault.Checked.{Checked}
 use Rattle.forms.specs.declared.fault.Checked.TheVariants as checked
 use Rattle.forms.specs.Checked.{in_turn}
 use Rattle.forms.specs.Word.{Bytes, byte, word32}

@@ -9,7 +9,6 @@ use native.Mathlib.Omega.{arith}
 use Rattle.model.specs.Limits.{is_interval}
 use Rattle.model.specs.Net.{Net}
 use Rattle.forms.specs.declared.fault.Fault.TheVariants as fault
-use Rattle.forms.specs.declared.fault.Checked.{Checked}
 use Rattle.forms.specs.declared.fault.Checked.TheVariants as checked
 use Rattle.forms.specs.Word.{byte}
 use Rattle.forms.specs.Places.{row_at, row_length, lfd_at, inputs_at, outputs_at}

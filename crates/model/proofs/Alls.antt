@@ -33,11 +33,11 @@ tells-same {b = true} s t f g = told-true s (g (t.sound tt))
 tells-same {b = false} s t f g = told-false s (λ x. t.complete (f x))
 
 -- a test that the code calls and then finds true, or false, by `if !f(..)`
-pub passed : {a b : Bool} → a ≡ b → not a ≡ false → b ≡ true
-passed {a} e h = sym e ∙ not-false a h
+pub passed : {a b : Bool} → a ≡ b → a ≡ true → b ≡ true
+passed e h = sym e ∙ h
 
-pub failed : {a b : Bool} → a ≡ b → not a ≡ true → b ≡ false
-failed {a} e h = sym e ∙ not-true a h
+pub failed : {a b : Bool} → a ≡ b → a ≡ false → b ≡ false
+failed e h = sym e ∙ h
 
 -- what a test that is known to be true, or false, says
 pub holds : {b : Bool} {A : Type 0} → Tells b A → b ≡ true → A
