@@ -1,0 +1,15 @@
+-- `shift::shift_up` meets its contract. The loop goes down, and keeps that the bytes from place n on have gone up (`Lifted`).
+use mathlib.Core.Path.{◌≡◌, refl, ◌∙◌}
+use Prim.Native.Nat.{◌≤◌, ◌*◌, ◌-◌}
+use native.Mathlib.Omega.{arith}
+use lib.ListN.{length}
+use Rattle.moves.proofs.Shifting.{Lifted, lifted-none, lifted-turn, lifted-all}
+use borrow.Author.Rules.{rules}
+use Rattle.moves.proofs.shift.shift_up.Goals as goal
+
+pub returns : goal.returns
+returns c =
+    let a = c.args in
+    c.write16.ensures
+    ∙ lifted-all a.base a.cells a.s.now c.loop-n.n c.loop-n.s c.loop-n.invariant.1 (omega arith) (omega arith) (omega arith)
+    (λ k. omega (arith, c.type_inv.s k))

@@ -1,0 +1,20 @@
+-- `tick::move_on` meets its contract: the clock's block, moved by one place, is what the rules write.
+use native.Mathlib.Omega.{arith}
+use Rattle.forms.proofs.States.{places-small, transitions-small, width_small}
+use Rattle.moves.proofs.Ticking.{block-fits, aged}
+use borrow.Author.Rules.{rules}
+use Rattle.moves.proofs.tick.move_on.Goals as goal
+
+pub shift_up-requires : goal.shift_up-requires
+shift_up-requires c =
+    let a = c.args in
+    let at = c.clock_at in
+    block-fits a.net.now a.shape a.state.now c.requires.framed at.result c.cells.result at.ensures c.cells.ensures.0
+
+pub returns : goal.returns
+returns c =
+    let a = c.args in
+    let at = c.clock_at in
+    let n = c.cells in
+    aged a.net.now a.shape a.state.now c.requires.framed at.result n.result at.ensures n.ensures.0
+    (λ k. omega (arith, c.type_inv.state k)) _ c.requires.state_value c.shift_up.ensures

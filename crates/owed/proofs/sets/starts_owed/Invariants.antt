@@ -1,0 +1,25 @@
+-- `sets::starts_owed` meets its contract. The loop keeps that the word is that of the transitions passed.
+use mathlib.Core.Path.{◌≡◌, sym, ap, ◌∙◌}
+use mathlib.Core.Bool.{Bool}
+use mathlib.Core.List.{List}
+use mathlib.Core.Logic.{⊎_elim}
+use Prim.Native.Nat.{ℕ, ◌-◌, ◌<◌, ◌≤◌}
+use native.Mathlib.Omega.{arith}
+use Rattle.model.specs.Owed.{does_owe_start}
+use Rattle.forms.specs.Word.{byte}
+use Rattle.forms.specs.Stored.{net_of, stored}
+use Rattle.forms.proofs.States.{transitions-small, transitions-same, transitions-model}
+use Rattle.owed.specs.Bits.{word_of}
+use Rattle.owed.proofs.OwedWords.{word-begin, word_set, word-skip}
+use Rattle.owed.proofs.ModelTests.{start-bit}
+use borrow.Author.Rules.{rules}
+use Rattle.owed.proofs.sets.starts_owed.Given as goal
+
+abbrev pub owes : List ℕ → List ℕ → ℕ → Bool
+owes net state = does_owe_start (net_of net) (stored net state)
+
+abbrev pub invariant-loop-t : goal.invariant-loop-t
+invariant-loop-t l = (l.t ≤ l.shape.transitions) × (l.word ≡ word_of l.t (owes l.net l.state))
+
+abbrev pub decreases-loop-t : goal.decreases-loop-t
+decreases-loop-t l = l.shape.transitions - l.t
