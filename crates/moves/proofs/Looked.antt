@@ -49,11 +49,11 @@ module _ (net b : List ℕ) (from n : ℕ) where
     took-nothing l = left ∙ rw (short-some net from b n r told l)
 
   module _ (r : Bool) (x : List ℕ) (tested : r ≡ is_roomy net from b n) (left : x ≡ given net from b n) where
-    pub gave : not r ≡ false → x ≡ put_words (mark_at 0) n (after_giving net from b) b
+    pub gave : r ≡ true → x ≡ put_words (mark_at 0) n (after_giving net from b) b
     unfolding given
     gave e = left ∙ rw (passed tested e)
 
-    pub gave-nothing : not r ≡ true → x ≡ b
+    pub gave-nothing : r ≡ false → x ≡ b
     unfolding given
     gave-nothing e = left ∙ rw (failed tested e)
 

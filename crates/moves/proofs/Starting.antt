@@ -109,18 +109,18 @@ module _ (net : List ℕ) (shape : Shape) (b : List ℕ) (f : Framed net shape b
 
       -- `from`, where the weights stand; `room`, that every place has room for its weight
       module _ (s : ¬ (v ≡ 0)) (from : ℕ) (e : from ≡ inputs_at shape.places t) (room : Bool) (tested : room ≡ is_roomy net from b shape.places) where
-        pub unstart-no-room : not room ≡ true → Answers net b (state_taken_back net false b (event.Start t)) (answer.Refused (refusal.OnlyBack barrier.PlaceOverfull)) b
+        pub unstart-no-room : room ≡ false → Answers net b (state_taken_back net false b (event.Start t)) (answer.Refused (refusal.OnlyBack barrier.PlaceOverfull)) b
         unfolding back
         unstart-no-room full = simp (known-test net shape b f t known, some s, sym (room_is from e) ∙ failed tested full) (refl, refl)
 
         -- 25 does not stand in the way, and 29 does
-        pub unstart-too-soon : not room ≡ false → has_no_old_end_owed (net_of net) (stored net b) ≡ false
+        pub unstart-too-soon : room ≡ true → has_no_old_end_owed (net_of net) (stored net b) ≡ false
             → Answers net b (state_taken_back net false b (event.Start t)) (answer.Refused refusal.OldEndOwed) b
         unfolding back
         unstart-too-soon free owed = simp (known-test net shape b f t known, some s, sym (room_is from e) ∙ passed tested free, owed) (refl, refl)
 
         -- `at`, where the count stands; x is the buffer with the markings written, and y with the count written too
-        pub unstart-done : not room ≡ false → has_no_old_end_owed (net_of net) (stored net b) ≡ true → Bytes b → v < 65536
+        pub unstart-done : room ≡ true → has_no_old_end_owed (net_of net) (stored net b) ≡ true → Bytes b → v < 65536
             → (c : Column) (at : ℕ) → c ≡ column_of (record { 0 = 0 }) → at ≡ count_at shape.places shape.width t c
             → (x y : List ℕ) → x ≡ put_words (mark_at 0) shape.places (after_giving net from b) b → y ≡ set_word x at (v - 1)
             → Answers net b (state_taken_back net false b (event.Start t)) answer.Done y
@@ -134,11 +134,11 @@ module _ (net : List ℕ) (shape : Shape) (b : List ℕ) (f : Framed net shape b
 
       -- the code found no place; `free`, that the count may go up
       module _ (p : ℕ) (found : p ≡ lacking_place (net_of net) (stored net b) t) (none : shape.places ≤ p) (free : Bool) (room : free ≡ is_held (v + 1)) where
-        pub start-full : has_no_old_end_owed (net_of net) (stored net b) ≡ true → not free ≡ true → Answers net b (applied net false b (event.Start t)) (answer.Refused refusal.CountFull) b
+        pub start-full : has_no_old_end_owed (net_of net) (stored net b) ≡ true → free ≡ false → Answers net b (applied net false b (event.Start t)) (answer.Refused refusal.CountFull) b
         unfolding apply
         start-full none_old full = simp (known-test net shape b f t known, able p found none, none_old, one_more stands (failed room full)) (refl, refl)
 
-        pub start-done : has_no_old_end_owed (net_of net) (stored net b) ≡ true → not free ≡ false → Bytes b → (from : ℕ) → from ≡ inputs_at shape.places t
+        pub start-done : has_no_old_end_owed (net_of net) (stored net b) ≡ true → free ≡ true → Bytes b → (from : ℕ) → from ≡ inputs_at shape.places t
             → (c : Column) (at : ℕ) → c ≡ column_of (record { 0 = 0 }) → at ≡ count_at shape.places shape.width t c
             → (x y : List ℕ) → x ≡ put_words (mark_at 0) shape.places (after_taking net from b) b → y ≡ set_word x at (v + 1)
             → Answers net b (applied net false b (event.Start t)) answer.Done y

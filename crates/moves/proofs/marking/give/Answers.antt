@@ -26,67 +26,71 @@ loop-p-init c =
 pub loop-p-smaller-then-weight-eq0 : goal.loop-p-smaller-then-weight-eq0
 loop-p-smaller-then-weight-eq0 c =
     let on : (c.loop-p.p < c.pass_zero-p.result) × (c.pass_zero-p.result ≤ c.args.places) =
-        let a = c.args in
-        rw c.pass_zero-p.ensures (pass_on a.net.now a.from c.loop-p.p a.places (omega arith)) in
+    let a = c.args in
+    rw c.pass_zero-p.ensures (pass_on a.net.now a.from c.loop-p.p a.places (omega arith)) in
     omega (arith, on.0)
 
 pub loop-p-preserved-then-weight-eq0 : goal.loop-p-preserved-then-weight-eq0
 loop-p-preserved-then-weight-eq0 c =
     let small : Bytes c.args.state.now =
-        λ k. omega (arith, c.type_inv.state k) in
+    λ k. omega (arith, c.slice_known-1.given k) in
     let on : (c.loop-p.p < c.pass_zero-p.result) × (c.pass_zero-p.result ≤ c.args.places) =
-        let a = c.args in
-        rw c.pass_zero-p.ensures (pass_on a.net.now a.from c.loop-p.p a.places (omega arith)) in
-    let zeros : (k : ℕ) → c.loop-p.p ≤ k → k < c.pass_zero-p.result → byte c.args.net.now (c.args.from + k) ≡ 0 =
-        λ k u l. let a = c.args in
-        passed-zero a.net.now a.from c.loop-p.p a.places (omega arith) (omega arith) k u (rw c.pass_zero-p.ensures at l) in
     let a = c.args in
-    let next = give-on a.net.now a.from a.state.now (small at) c.loop-p.p c.loop-p.state c.loop-p.invariant.2 c.loop-p.invariant.3 c.pass_zero-p.result (omega (arith, on.0)) zeros in
+    rw c.pass_zero-p.ensures (pass_on a.net.now a.from c.loop-p.p a.places (omega arith)) in
+    let zeros : (k : ℕ) → c.loop-p.p ≤ k → k < c.pass_zero-p.result → byte c.args.net.now (c.args.from + k) ≡ 0 =
+    λ k u l. let a = c.args in
+    passed-zero a.net.now a.from c.loop-p.p a.places (omega arith) (omega arith) k u (rw c.pass_zero-p.ensures at l) in
+    let a = c.args in
+    let next = give-on a.net.now a.from a.state.now small c.loop-p.p c.loop-p.state c.loop-p.invariant.2 c.loop-p.invariant.3 c.pass_zero-p.result (omega (arith, on.0)) zeros in
     (omega (arith, on.1), c.loop-p.invariant.1, next.0, next.1)
 
 pub take_back-requires : goal.take_back-requires
 take_back-requires c =
     let small : Bytes c.args.state.now =
-        λ k. omega (arith, c.type_inv.state k) in
-    let a = c.args in record { places_bound = omega arith; by_index = λ q l. omega (arith, give-word a.net.now a.from a.state.now (small at) c.loop-p.p c.loop-p.state c.loop-p.invariant.2 c.loop-p.invariant.3 (omega arith) q l) }
+    λ k. omega (arith, c.slice_known-1.given k) in
+    let a = c.args in record { places_bound = omega arith; by_index = λ q l. omega (arith, give-word a.net.now a.from a.state.now small c.loop-p.p c.loop-p.state c.loop-p.invariant.2 c.loop-p.invariant.3 (omega arith) q l) }
 
 pub returns-then-not-held : goal.returns-then-not-held
 returns-then-not-held c =
     let small : Bytes c.args.state.now =
-        λ k. omega (arith, c.type_inv.state k) in
+    λ k. omega (arith, c.slice_known-1.given k) in
     let stood : c.read16.result ≡ word c.args.state.now (mark_at c.loop-p.p) =
-        let a = c.args in
-        mark-read (after_giving a.net.now a.from a.state.now) a.state.now c.loop-p.p c.loop-p.state c.mark_at-at.result c.read16.result
-        c.loop-p.invariant.2 c.mark_at-at.ensures c.read16.ensures.0 in
-    let weight : c.wide-weight.result ≡ byte c.args.net.now (c.args.from + c.loop-p.p) =
-        c.wide-weight.ensures.0 in
-    let asked : c.read16.result + c.wide-weight.result ≡ after_giving c.args.net.now c.args.from c.args.state.now c.loop-p.p =
-        omega (arith, stood, weight) in
-    -- !! helper no_room
     let a = c.args in
-    give-stop a.net.now a.from a.state.now (small at) c.loop-p.p c.loop-p.state c.loop-p.invariant.2 c.loop-p.invariant.3 a.places (omega arith) (omega arith) (no_room c.held.result c.held.ensures c.if-not-held.true) _ c.take_back.ensures -- !! labels ['value', 'state_after']
+    mark-read (after_giving a.net.now a.from a.state.now) a.state.now c.loop-p.p c.loop-p.state c.mark_at-at.result c.read16.result
+    c.loop-p.invariant.2 c.mark_at-at.ensures c.read16.ensures.0 in
+    let weight : c.wide-weight.result ≡ byte c.args.net.now (c.args.from + c.loop-p.p) =
+    c.wide-weight.ensures.0 in
+    let asked : c.read16.result + c.wide-weight.result ≡ after_giving c.args.net.now c.args.from c.args.state.now c.loop-p.p =
+    omega (arith, stood, weight) in
+    let no_room : (r : Bool) → r ≡ is_held (c.read16.result + c.wide-weight.result) → r ≡ false → is_held (after_giving c.args.net.now c.args.from c.args.state.now c.loop-p.p) ≡ false =
+    λ r e f. rw asked at (failed e f) in
+    let a = c.args in
+    let both = give-stop a.net.now a.from a.state.now small c.loop-p.p c.loop-p.state c.loop-p.invariant.2 c.loop-p.invariant.3 a.places (omega arith) (omega arith) (no_room c.held.result c.held.ensures c.if-not-held.true) _ c.take_back.ensures in
+    record { value = both.0; state_after = both.1 }
 
 pub loop-p-preserved : goal.loop-p-preserved
 loop-p-preserved c =
     let small : Bytes c.args.state.now =
-        λ k. omega (arith, c.type_inv.state k) in
+    λ k. omega (arith, c.slice_known-1.given k) in
     let stood : c.read16.result ≡ word c.args.state.now (mark_at c.loop-p.p) =
-        let a = c.args in
-        mark-read (after_giving a.net.now a.from a.state.now) a.state.now c.loop-p.p c.loop-p.state c.mark_at-at.result c.read16.result
-        c.loop-p.invariant.2 c.mark_at-at.ensures c.read16.ensures.0 in
+    let a = c.args in
+    mark-read (after_giving a.net.now a.from a.state.now) a.state.now c.loop-p.p c.loop-p.state c.mark_at-at.result c.read16.result
+    c.loop-p.invariant.2 c.mark_at-at.ensures c.read16.ensures.0 in
     let weight : c.wide-weight.result ≡ byte c.args.net.now (c.args.from + c.loop-p.p) =
-        c.wide-weight.ensures.0 in
+    c.wide-weight.ensures.0 in
     let asked : c.read16.result + c.wide-weight.result ≡ after_giving c.args.net.now c.args.from c.args.state.now c.loop-p.p =
-        omega (arith, stood, weight) in
-    -- !! helper roomy
+    omega (arith, stood, weight) in
+    let roomy : (r : Bool) → r ≡ is_held (c.read16.result + c.wide-weight.result) → r ≡ true → is_held (after_giving c.args.net.now c.args.from c.args.state.now c.loop-p.p) ≡ true =
+    λ r e f. rw asked at (passed e f) in
     let a = c.args in
     let wrote = rw c.mark_at-at.ensures at c.write16.ensures in
-    let next = give-turn a.net.now a.from a.state.now (small at) c.loop-p.p c.loop-p.state c.loop-p.invariant.2 c.loop-p.invariant.3 (roomy c.held.result c.held.ensures c.if-not-held.false) _ (c.read16.result + c.wide-weight.result) wrote (omega (arith, stood, weight)) in
+    let next = give-turn a.net.now a.from a.state.now small c.loop-p.p c.loop-p.state c.loop-p.invariant.2 c.loop-p.invariant.3 (roomy c.held.result c.held.ensures c.if-not-held.false) _ (c.read16.result + c.wide-weight.result) wrote (omega (arith, stood, weight)) in
     (omega arith, omega arith, next.0, next.1)
 
 pub returns : goal.returns
 returns c =
     let small : Bytes c.args.state.now =
-        λ k. omega (arith, c.type_inv.state k) in
+    λ k. omega (arith, c.slice_known-1.given k) in
     let a = c.args in
-    give-end a.net.now a.from a.state.now (small at) c.loop-p.p c.loop-p.state c.loop-p.invariant.2 c.loop-p.invariant.3 a.places (omega arith) (omega arith) -- !! labels ['value', 'state_after']
+    let both = give-end a.net.now a.from a.state.now small c.loop-p.p c.loop-p.state c.loop-p.invariant.2 c.loop-p.invariant.3 a.places (omega arith) (omega arith) in
+    record { value = both.0; state_after = both.1 }

@@ -19,17 +19,17 @@ loop-p-init c =
 pub write16-requires : goal.write16-requires
 write16-requires c =
     let stood : c.read16.result ≡ word c.args.state.now (mark_at c.loop-p.p) =
-        let a = c.args in
-        mark-read (after_giving a.net.now a.from a.state.now) a.state.now c.loop-p.p c.loop-p.state c.mark_at-at.result c.read16.result
-        c.loop-p.invariant.2 c.mark_at-at.ensures c.read16.ensures.0 in
+    let a = c.args in
+    mark-read (after_giving a.net.now a.from a.state.now) a.state.now c.loop-p.p c.loop-p.state c.mark_at-at.result c.read16.result
+    c.loop-p.invariant.2 c.mark_at-at.ensures c.read16.ensures.0 in
     omega (arith, stood, c.wide.ensures.0, c.requires.by_index c.loop-p.p (omega arith))
 
 pub loop-p-preserved : goal.loop-p-preserved
 loop-p-preserved c =
     let stood : c.read16.result ≡ word c.args.state.now (mark_at c.loop-p.p) =
-        let a = c.args in
-        mark-read (after_giving a.net.now a.from a.state.now) a.state.now c.loop-p.p c.loop-p.state c.mark_at-at.result c.read16.result
-        c.loop-p.invariant.2 c.mark_at-at.ensures c.read16.ensures.0 in
+    let a = c.args in
+    mark-read (after_giving a.net.now a.from a.state.now) a.state.now c.loop-p.p c.loop-p.state c.mark_at-at.result c.read16.result
+    c.loop-p.invariant.2 c.mark_at-at.ensures c.read16.ensures.0 in
     let a = c.args in
     let wrote = rw c.mark_at-at.ensures at c.write16.ensures in
     let value : c.read16.result + c.wide.result ≡ after_giving a.net.now a.from a.state.now c.loop-p.p =

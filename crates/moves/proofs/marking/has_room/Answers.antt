@@ -19,9 +19,9 @@ pub returns-then-not-held : goal.returns-then-not-held
 unfolding is_roomy
 returns-then-not-held c =
     let asked : c.read16.result + c.wide-weight.result ≡ after_giving c.args.net.now c.args.from c.args.state.now c.loop-p.p =
-        let a = c.args in
-        let stood = c.read16.ensures.0 ∙ ap (word a.state.now) c.mark_at.ensures in
-        omega (arith, stood, c.wide-weight.ensures.0) in
+    let a = c.args in
+    let stood = c.read16.ensures.0 ∙ ap (word a.state.now) c.mark_at.ensures in
+    omega (arith, stood, c.wide-weight.ensures.0) in
     let a = c.args in
     sym (all-stop (λ k. is_held (after_giving a.net.now a.from a.state.now k)) a.places c.loop-p.p (omega arith)
     (rw asked at (failed c.held.ensures c.if-not-held.true)))
@@ -29,9 +29,9 @@ returns-then-not-held c =
 pub loop-p-preserved : goal.loop-p-preserved
 loop-p-preserved c =
     let asked : c.read16.result + c.wide-weight.result ≡ after_giving c.args.net.now c.args.from c.args.state.now c.loop-p.p =
-        let a = c.args in
-        let stood = c.read16.ensures.0 ∙ ap (word a.state.now) c.mark_at.ensures in
-        omega (arith, stood, c.wide-weight.ensures.0) in
+    let a = c.args in
+    let stood = c.read16.ensures.0 ∙ ap (word a.state.now) c.mark_at.ensures in
+    omega (arith, stood, c.wide-weight.ensures.0) in
     let a = c.args in (
       omega arith,
       all-turn (λ k. is_held (after_giving a.net.now a.from a.state.now k)) c.loop-p.p

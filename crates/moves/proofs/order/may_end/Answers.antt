@@ -17,7 +17,7 @@ module _ (started : Bool) (j : ℕ) where
   behind e = rw e
 
 pub returns-then-not-started : goal.returns-then-not-started
-returns-then-not-started c = let a = c.args in opening a.started a.age.0 (not-true a.started c.if-not-started.true)
+returns-then-not-started c = let a = c.args in opening a.started a.age.0 c.if-not-started.true
 
 pub returns : goal.returns
-returns c = let a = c.args in behind a.started a.age.0 (not-false a.started c.if-not-started.false)
+returns c = let a = c.args in behind a.started a.age.0 c.if-not-started.false

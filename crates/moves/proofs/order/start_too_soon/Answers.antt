@@ -13,37 +13,25 @@ returns-then-shape-t c =
 pub lacking-p-requires : goal.lacking-p-requires
 lacking-p-requires c =
     let known : c.args.t < byte c.args.net.now 6 =
-        known-byte c.args.net.now c.args.shape c.args.state.now c.requires.framed c.args.t (omega (arith, c.if-shape-t.false)) in
-     record { framed = c.requires.framed; t_bound = known }
+    known-byte c.args.net.now c.args.shape c.args.state.now c.requires.framed c.args.t (omega (arith, c.if-shape-t.false)) in
+    record { framed = c.requires.framed; t_bound = known }
 
 pub short-requires : goal.short-requires
 short-requires c =
     let known : c.args.t < byte c.args.net.now 6 =
-        known-byte c.args.net.now c.args.shape c.args.state.now c.requires.framed c.args.t (omega (arith, c.if-shape-t.false)) in
-     record { framed = c.requires.framed; t_bound = (known, c.if-p-shape.true, c.lacking-p.ensures) }
+    known-byte c.args.net.now c.args.shape c.args.state.now c.requires.framed c.args.t (omega (arith, c.if-shape-t.false)) in
+    record { framed = c.requires.framed; t_bound = (known, c.if-p-shape.true, c.lacking-p.ensures) }
 
 pub returns-then-p-shape : goal.returns-then-p-shape
 returns-then-p-shape c =
     let known : c.args.t < byte c.args.net.now 6 =
-        known-byte c.args.net.now c.args.shape c.args.state.now c.requires.framed c.args.t (omega (arith, c.if-shape-t.false)) in
+    known-byte c.args.net.now c.args.shape c.args.state.now c.requires.framed c.args.t (omega (arith, c.if-shape-t.false)) in
     start-disabled c.args.net.now c.args.shape c.args.state.now c.requires.framed c.args.t known c.lacking-p.result
     c.lacking-p.ensures c.if-p-shape.true c.short.result c.short.ensures
 
 pub returns : goal.returns
 returns c =
     let known : c.args.t < byte c.args.net.now 6 =
-        known-byte c.args.net.now c.args.shape c.args.state.now c.requires.framed c.args.t (omega (arith, c.if-shape-t.false)) in
+    known-byte c.args.net.now c.args.shape c.args.state.now c.requires.framed c.args.t (omega (arith, c.if-shape-t.false)) in
     start-too-soon c.args.net.now c.args.shape c.args.state.now c.requires.framed c.args.t known c.lacking-p.result
     c.lacking-p.ensures c.if-p-shape.false c.requires.state_value
-
-pub lacking-p-requires : goal.lacking-p-requires
-lacking-p-requires c =
-    let known : c.args.t < byte c.args.net.now 6 =
-        known-byte c.args.net.now c.args.shape c.args.state.now c.requires.framed c.args.t (omega (arith, c.if-shape-t.false)) in
-     record { framed = c.requires.framed; t_bound = known }
-
-pub short-requires : goal.short-requires
-short-requires c =
-    let known : c.args.t < byte c.args.net.now 6 =
-        known-byte c.args.net.now c.args.shape c.args.state.now c.requires.framed c.args.t (omega (arith, c.if-shape-t.false)) in
-     record { framed = c.requires.framed; t_bound = (known, c.if-p-shape.true, c.lacking-p.ensures) }

@@ -15,4 +15,4 @@ returns c =
     c.write16.ensures
     ∙ ap (λ (k : ℕ). set_word c.loop-n.s (a.base + k) 0) e
     ∙ lowered-all a.base a.s.now c.loop-n.n c.loop-n.s c.loop-n.invariant.2 a.cells (omega arith) (omega arith) (omega arith)
-    (λ k. omega (arith, c.type_inv.s k))
+    (λ k. omega (arith, c.slice_known-1.given k))

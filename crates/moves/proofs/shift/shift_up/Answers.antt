@@ -12,4 +12,4 @@ returns c =
     let a = c.args in
     c.write16.ensures
     ∙ lifted-all a.base a.cells a.s.now c.loop-n.n c.loop-n.s c.loop-n.invariant.1 (omega arith) (omega arith) (omega arith)
-    (λ k. omega (arith, c.type_inv.s k))
+    (λ k. omega (arith, c.slice_known-1.given k))

@@ -17,4 +17,4 @@ returns c =
     let at = c.clock_at in
     let n = c.cells in
     unaged a.net.now a.shape a.state.now c.requires.framed at.result n.result at.ensures n.ensures.0
-    (λ k. omega (arith, c.type_inv.state k)) _ c.requires.state_value c.shift_down.ensures
+    (λ k. omega (arith, c.slice_known-1.given k)) _ c.requires.state_value c.shift_down.ensures

@@ -8,24 +8,28 @@ use Rattle.moves.proofs.tick.tick.Goals as goal
 pub returns-then-not-no_start_owed : goal.returns-then-not-no_start_owed
 returns-then-not-no_start_owed c =
     let a = c.args in
-    tick-start-owed a.net.now a.state.now (failed c.no_start_owed.ensures c.if-not-no_start_owed.true) -- !! labels ['value', 'state_after']
+    let both = tick-start-owed a.net.now a.state.now (failed c.no_start_owed.ensures c.if-not-no_start_owed.true) in
+    record { value = both.0; state_after = both.1 }
 
 pub returns-then-not-no_end_owed : goal.returns-then-not-no_end_owed
 returns-then-not-no_end_owed c =
     let a = c.args in
-    tick-end-owed a.net.now a.state.now
-    (passed c.no_start_owed.ensures c.if-not-no_start_owed.false) (failed c.no_end_owed.ensures c.if-not-no_end_owed.true) -- !! labels ['value', 'state_after']
+    let both = tick-end-owed a.net.now a.state.now
+    (passed c.no_start_owed.ensures c.if-not-no_start_owed.false) (failed c.no_end_owed.ensures c.if-not-no_end_owed.true) in
+    record { value = both.0; state_after = both.1 }
 
 pub returns-then-nothing_running : goal.returns-then-nothing_running
 returns-then-nothing_running c =
     let a = c.args in
-    tick-rest a.net.now a.state.now
+    let both = tick-rest a.net.now a.state.now
     (passed c.no_start_owed.ensures c.if-not-no_start_owed.false) (passed c.no_end_owed.ensures c.if-not-no_end_owed.false)
-    (sym c.nothing_running.ensures ∙ c.if-nothing_running.true) -- !! labels ['value', 'state_after']
+    (sym c.nothing_running.ensures ∙ c.if-nothing_running.true) in
+    record { value = both.0; state_after = both.1 }
 
 pub returns : goal.returns
 returns c =
     let a = c.args in
-    tick-done a.net.now a.state.now
+    let both = tick-done a.net.now a.state.now
     (passed c.no_start_owed.ensures c.if-not-no_start_owed.false) (passed c.no_end_owed.ensures c.if-not-no_end_owed.false)
-    (sym c.nothing_running.ensures ∙ c.if-nothing_running.false) _ c.move_on.ensures -- !! labels ['value', 'state_after']
+    (sym c.nothing_running.ensures ∙ c.if-nothing_running.false) _ c.move_on.ensures in
+    record { value = both.0; state_after = both.1 }

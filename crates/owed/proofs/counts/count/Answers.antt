@@ -10,10 +10,9 @@ read16-requires c =
     c.column.ensures c.count_at.ensures
 
 pub returns : goal.returns
-returns c =
-    (
-      c.read16.ensures.0
-          ∙ count-stands c.args.net.now c.args.shape c.args.state.now c.requires.framed c.args.t c.requires.t_bound.0 c.args.age c.column.result c.count_at.result c.requires.t_bound.1
-          c.column.ensures c.count_at.ensures,
-      c.read16.ensures.1,
-    )
+returns c = (
+  c.read16.ensures.0
+      ∙ count-stands c.args.net.now c.args.shape c.args.state.now c.requires.framed c.args.t c.requires.t_bound.0 c.args.age c.column.result c.count_at.result c.requires.t_bound.1
+      c.column.ensures c.count_at.ensures,
+  c.read16.ensures.1,
+)

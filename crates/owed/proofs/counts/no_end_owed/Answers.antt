@@ -21,7 +21,7 @@ loop-t-init c = let a = c.args in (omega arith, all-begin (empty a.net.now a.sta
 
 pub due-requires : goal.due-requires
 due-requires c =
-     record { framed = c.requires; t_bound = omega (arith, transitions-same c.args.net.now c.args.shape c.requires.net_framed) }
+    record { framed = c.requires; t_bound = omega (arith, transitions-same c.args.net.now c.args.shape c.requires.net_framed) }
 
 pub returns-then-due-ne0 : goal.returns-then-due-ne0
 returns-then-due-ne0 c =

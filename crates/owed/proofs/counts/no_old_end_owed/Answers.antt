@@ -19,7 +19,7 @@ loop-t-init c = let a = c.args in (omega arith, all-begin (clear a.net.now a.sta
 
 pub owes_no_old_end-requires : goal.owes_no_old_end-requires
 owes_no_old_end-requires c =
-     record { framed = c.requires; t_bound = omega (arith, transitions-same c.args.net.now c.args.shape c.requires.net_framed) }
+    record { framed = c.requires; t_bound = omega (arith, transitions-same c.args.net.now c.args.shape c.requires.net_framed) }
 
 pub returns-then-not-owes_no_old_end : goal.returns-then-not-owes_no_old_end
 returns-then-not-owes_no_old_end c =

@@ -22,10 +22,13 @@ loop-t-init c = let a = c.args in (omega arith, all-begin (empty a.net.now a.sta
 
 pub count-requires : goal.count-requires
 count-requires c =
-     record { framed = c.requires; t_bound = (
+    record {
+      framed = c.requires;
+      t_bound = (
         omega (arith, transitions-same c.args.net.now c.args.shape c.requires.net_framed),
         omega (arith, c.requires.net_framed.has_shape.width_is, width-pos (net_of c.args.net.now)),
-      ) }
+      );
+    }
 
 pub returns-then-count-ne0 : goal.returns-then-count-ne0
 returns-then-count-ne0 c =

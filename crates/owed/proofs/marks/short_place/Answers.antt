@@ -21,18 +21,18 @@ loop-p-init c =
 pub loop-p-smaller-then-weight-eq0 : goal.loop-p-smaller-then-weight-eq0
 loop-p-smaller-then-weight-eq0 c =
     let on : (c.loop-p.p < c.pass_zero-p.result) × (c.pass_zero-p.result ≤ c.args.places) =
-        let a = c.args in
-        rw c.pass_zero-p.ensures (pass_on a.net.now a.from c.loop-p.p a.places (omega arith)) in
+    let a = c.args in
+    rw c.pass_zero-p.ensures (pass_on a.net.now a.from c.loop-p.p a.places (omega arith)) in
     omega (arith, on.0)
 
 pub loop-p-preserved-then-weight-eq0 : goal.loop-p-preserved-then-weight-eq0
 loop-p-preserved-then-weight-eq0 c =
     let on : (c.loop-p.p < c.pass_zero-p.result) × (c.pass_zero-p.result ≤ c.args.places) =
-        let a = c.args in
-        rw c.pass_zero-p.ensures (pass_on a.net.now a.from c.loop-p.p a.places (omega arith)) in
+    let a = c.args in
+    rw c.pass_zero-p.ensures (pass_on a.net.now a.from c.loop-p.p a.places (omega arith)) in
     let zeros : (k : ℕ) → c.loop-p.p ≤ k → k < c.pass_zero-p.result → byte c.args.net.now (c.args.from + k) ≡ 0 =
-        λ k u l. let a = c.args in
-        passed-zero a.net.now a.from c.loop-p.p a.places (omega arith) (omega arith) k u (rw c.pass_zero-p.ensures at l) in
+    λ k u l. let a = c.args in
+    passed-zero a.net.now a.from c.loop-p.p a.places (omega arith) (omega arith) k u (rw c.pass_zero-p.ensures at l) in
     let a = c.args in (
       omega (arith, on.1),
       all-on (λ k. not (is_short a.net.now a.from a.state.now k)) c.loop-p.p c.pass_zero-p.result c.loop-p.invariant.1
@@ -43,7 +43,7 @@ pub returns-then-read16-weight : goal.returns-then-read16-weight
 unfolding short_place
 returns-then-read16-weight c =
     let marked : c.read16.result ≡ word c.args.state.now (mark_at c.loop-p.p) =
-        c.read16.ensures.0 ∙ ap (word c.args.state.now) c.mark_at.ensures in
+    c.read16.ensures.0 ∙ ap (word c.args.state.now) c.mark_at.ensures in
     let a = c.args in
     let p = c.loop-p.p in
     let less : word a.state.now (mark_at p) < byte a.net.now (a.from + p) = omega (arith, marked) in
@@ -52,7 +52,7 @@ returns-then-read16-weight c =
 pub loop-p-preserved : goal.loop-p-preserved
 loop-p-preserved c =
     let marked : c.read16.result ≡ word c.args.state.now (mark_at c.loop-p.p) =
-        c.read16.ensures.0 ∙ ap (word c.args.state.now) c.mark_at.ensures in
+    c.read16.ensures.0 ∙ ap (word c.args.state.now) c.mark_at.ensures in
     let a = c.args in
     let p = c.loop-p.p in
     let enough : byte a.net.now (a.from + p) ≤ word a.state.now (mark_at p) = omega (arith, marked) in

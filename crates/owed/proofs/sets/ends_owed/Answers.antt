@@ -29,7 +29,7 @@ loop-t-init c = let a = c.args in (omega arith, word-begin (owes a.net.now a.sta
 
 pub due-requires : goal.due-requires
 due-requires c =
-     record { framed = c.requires; t_bound = omega (arith, transitions-same c.args.net.now c.args.shape c.requires.net_framed) }
+    record { framed = c.requires; t_bound = omega (arith, transitions-same c.args.net.now c.args.shape c.requires.net_framed) }
 
 pub with_bit-word-requires : goal.with_bit-word-requires
 with_bit-word-requires c = omega (arith, transitions-small c.args.net.now c.args.shape c.requires.net_framed)
@@ -43,7 +43,7 @@ loop-t-preserved c =
     let told = end-bit a.net.now a.shape a.state.now c.requires c.loop-t.t known in (
       omega arith,
       elim c.if-due-ne0.branch [
-        then-due-ne0 w ↦ w.word-is ∙ w.with_bit-word.ensures ∙ word_set f c.loop-t.word c.loop-t.t c.loop-t.invariant.1 small (told ∙ le-leb _ _ (some c.due.ensures.0 w.if-due-ne0.true))
-      | else-due-ne0 w ↦ w.word-is ∙ word-skip f c.loop-t.word c.loop-t.t c.loop-t.invariant.1 (told ∙ lt-leb _ _ (none c.due.ensures.0 w.if-due-ne0.false))
+        | then-due-ne0 w ↦ w.word-is ∙ w.with_bit-word.ensures ∙ word_set f c.loop-t.word c.loop-t.t c.loop-t.invariant.1 small (told ∙ le-leb _ _ (some c.due.ensures.0 w.if-due-ne0.true))
+        | else-due-ne0 w ↦ w.word-is ∙ word-skip f c.loop-t.word c.loop-t.t c.loop-t.invariant.1 (told ∙ lt-leb _ _ (none c.due.ensures.0 w.if-due-ne0.false))
       ],
     )

@@ -22,7 +22,7 @@ loop-t-init c = let a = c.args in (omega arith, word-begin (owes a.net.now a.sta
 
 pub enabled-requires : goal.enabled-requires
 enabled-requires c =
-     record { framed = c.requires; t_bound = omega (arith, transitions-same c.args.net.now c.args.shape c.requires.net_framed) }
+    record { framed = c.requires; t_bound = omega (arith, transitions-same c.args.net.now c.args.shape c.requires.net_framed) }
 
 pub with_bit-word-requires : goal.with_bit-word-requires
 with_bit-word-requires c = omega (arith, transitions-small c.args.net.now c.args.shape c.requires.net_framed)
@@ -36,7 +36,7 @@ loop-t-preserved c =
     let told = start-bit a.net.now a.shape a.state.now c.requires c.loop-t.t known ∙ sym c.enabled.ensures in (
       omega arith,
       elim c.if-enabled.branch [
-        then-enabled w ↦ w.word-is ∙ w.with_bit-word.ensures ∙ word_set f c.loop-t.word c.loop-t.t c.loop-t.invariant.1 small (told ∙ w.if-enabled.true)
-      | else-enabled w ↦ w.word-is ∙ word-skip f c.loop-t.word c.loop-t.t c.loop-t.invariant.1 (told ∙ w.if-enabled.false)
+        | then-enabled w ↦ w.word-is ∙ w.with_bit-word.ensures ∙ word_set f c.loop-t.word c.loop-t.t c.loop-t.invariant.1 small (told ∙ w.if-enabled.true)
+        | else-enabled w ↦ w.word-is ∙ word-skip f c.loop-t.word c.loop-t.t c.loop-t.invariant.1 (told ∙ w.if-enabled.false)
       ],
     )

@@ -19,7 +19,7 @@ loop-t-init c = let a = c.args in (omega arith, all-begin (idle a.net.now a.stat
 
 pub enabled-requires : goal.enabled-requires
 enabled-requires c =
-     record { framed = c.requires; t_bound = omega (arith, transitions-same c.args.net.now c.args.shape c.requires.net_framed) }
+    record { framed = c.requires; t_bound = omega (arith, transitions-same c.args.net.now c.args.shape c.requires.net_framed) }
 
 pub returns-then-enabled : goal.returns-then-enabled
 returns-then-enabled c =
