@@ -6,10 +6,13 @@ pub mod Lacking
 pub mod Alls
 pub mod Ages
 pub mod Shape
+pub mod ForwardSteps
 pub mod Forward
 pub mod Lawful
 pub mod Facts
+pub mod BackSteps
 pub mod Back
+pub mod RefusalSteps
 pub mod Refusals
 pub mod Tellings
 pub mod Turns

@@ -17,7 +17,8 @@ use Rattle.model.proofs.Tab.{both-tell}
 use Rattle.model.proofs.Tests.{leb_tells, ltb-tells, enabled-tells, no-start-owed-tells, no-end-owed-tells}
 use Rattle.model.proofs.Tests.{nothing-running-tells, decide, told-true, told-false, tells-once}
 use Rattle.model.proofs.Lowest.{lowest-is, lowest-once}
-use Rattle.model.proofs.Forward.{ticks, apply-exact}
+use Rattle.model.proofs.ForwardSteps.{ticks}
+use Rattle.model.proofs.Forward.{apply-exact}
 
 -- HOW MANY A SET HAS THAT A TEST TELLS
 

@@ -1,7 +1,6 @@
 -- Document 01's limits and the bytes of an event, at their edges, as numbers that a reader can compare with the document.
 -- Assumes nothing.
 use Rattle.std.specs.Prelude.{◌≡◌, true, false, [], ◌∷◌}
-use Rattle.model.specs.declared.event.Event.{Event}
 use Rattle.model.specs.declared.event.Event.TheVariants as event
 use Rattle.model.specs.Age.{column_of, age_of}
 use Rattle.model.specs.Event.{event_of}
