@@ -1,3 +1,4 @@
 // Lines of text, built in a lent buffer.
 #![tactic(auto)]
+
 pub mod line;
