@@ -1,10 +1,11 @@
-// Requests, as docs/ASK.md sets them down, read from standard input part by part.
-ghost use Rattle.std.specs.Prelude.{◌≡◌, true};
+// Requests, as docs/ASK.md sets them down, read part by part.
+ghost use Rattle.std.specs.Prelude.{◌≡◌, true, length, IfOk};
 ghost use Rattle.io.specs.Counts.{IsPrefixLen};
 ghost use Rattle.menuask.specs.Requests.{is_within, is_within_but_step, numbers_of, takes_fact, parts_of, asks_so};
 
 use forms::words;
-use libc::STDIN_FILENO;
+use std::io;
+use std::io::Read;
 
 // What a request of some kind has, in this order: slices, so many numbers, and the number that says whether a start has happened in the step. The
 // third slice is a log, the buffer for one, or weights.
@@ -113,62 +114,70 @@ pub fn asks(kind: u8, first: usize, second: usize, started: usize) -> bool
 }
 
 // A number of four bytes, where one is asked for.
-fn number(fine: bool, wanted: bool) -> Part {
+fn number<R: Read>(from: &mut R, fine: bool, wanted: bool) -> io::Result<Part> {
     if !fine || !wanted {
-        return Part { fine, value: 0 };
+        return Ok(Part { fine, value: 0 });
     }
     let mut four = [0u8; 4];
-    let arrived = io::read_full(STDIN_FILENO, &mut four);
-    Part {
+    let arrived = streams::read_full(from, &mut four)?;
+    Ok(Part {
         fine: arrived == 4,
         value: words::read32(&four, 0),
-    }
+    })
 }
 
 // A slice, where one is asked for: its length, and as many bytes, put at the front of its buffer. One longer than the buffer is bad.
-fn slice(fine: bool, wanted: bool, into: &mut [u8]) -> Part
-    ensures { IsPrefixLen result.value into.new }
+fn slice<R: Read>(from: &mut R, fine: bool, wanted: bool, into: &mut [u8]) -> io::Result<Part>
+    ensures ok { IfOk result (λ part. IsPrefixLen part.value into.new) }
+    ensures into_len_unchanged { length into.new ≡ length into.old }
 {
     if !wanted {
-        return Part { fine, value: 0 };
+        return Ok(Part { fine, value: 0 });
     }
-    let size = number(fine, true);
+    let size = number(from, fine, true)?;
     let n = size.value;
     if !size.fine {
-        return Part {
+        return Ok(Part {
             fine: false,
             value: 0,
-        };
+        });
     }
     if into.len() < n {
-        return Part {
+        return Ok(Part {
             fine: false,
             value: 0,
-        };
+        });
     }
-    let arrived = io::read_full(STDIN_FILENO, &mut into[..n]);
-    Part {
+    let arrived = streams::read_full(from, &mut into[..n])?;
+    Ok(Part {
         fine: arrived == n,
         value: n,
-    }
+    })
 }
 
-// What follows the kind of a request: its slices and numbers.
-pub fn read(kind: u8, net: &mut [u8], state: &mut [u8], third: &mut [u8]) -> Request
-    ensures prefix_len { IsPrefixLen result.net net.new }
-    ensures prefix_len_2 { IsPrefixLen result.state state.new }
-    ensures prefix_len_3 { IsPrefixLen result.third third.new }
-    ensures started_value { result.fine ≡ true → asks_so kind result.first result.second result.started ≡ true }
+// What follows the kind of a request: its slices and numbers. A read that fails is the error; the buffers keep their lengths.
+pub fn read<R: Read>(
+    from: &mut R,
+    kind: u8,
+    net: &mut [u8],
+    state: &mut [u8],
+    third: &mut [u8],
+) -> io::Result<Request>
+    ensures prefix_len { IfOk result (λ request. IsPrefixLen request.net net.new) }
+    ensures prefix_len_2 { IfOk result (λ request. IsPrefixLen request.state state.new) }
+    ensures prefix_len_3 { IfOk result (λ request. IsPrefixLen request.third third.new) }
+    ensures started_value { IfOk result (λ request. request.fine ≡ true → asks_so kind request.first request.second request.started ≡ true) }
+    ensures len_unchanged { (length net.new ≡ length net.old) × (length state.new ≡ length state.old) × (length third.new ≡ length third.old) }
 {
     let has = parts_of(kind);
-    let nets = slice(true, has.net, net);
-    let states = slice(nets.fine, has.state, state);
-    let thirds = slice(states.fine, has.third, third);
-    let first = number(thirds.fine, 1 <= has.numbers);
-    let second = number(first.fine, 2 <= has.numbers);
-    let started = number(second.fine, has.started);
+    let nets = slice(from, true, has.net, net)?;
+    let states = slice(from, nets.fine, has.state, state)?;
+    let thirds = slice(from, states.fine, has.third, third)?;
+    let first = number(from, thirds.fine, 1 <= has.numbers)?;
+    let second = number(from, first.fine, 2 <= has.numbers)?;
+    let started = number(from, second.fine, has.started)?;
     let fine = started.fine && asks(kind, first.value, second.value, started.value);
-    Request {
+    Ok(Request {
         fine,
         net: nets.value,
         state: states.value,
@@ -176,5 +185,5 @@ pub fn read(kind: u8, net: &mut [u8], state: &mut [u8], third: &mut [u8]) -> Req
         first: first.value,
         second: second.value,
         started: started.value,
-    }
+    })
 }

@@ -2,17 +2,21 @@
 // refused and why, and how the last state stands to it. What is told, phrase by phrase, is decided and proved in the crate why, and how a
 // phrase becomes text in the crate phrases. Here are the words, and what reads and writes.
 #![tactic(auto)]
+
 mod meanings;
 mod table;
 
-ghost use Rattle.std.specs.Prelude.{◌+◌, ◌≤◌, ◌≡◌, length};
+ghost use Rattle.std.specs.Prelude.{◌+◌, ◌≤◌, ◌≡◌, length, IfOk};
 ghost use Rattle.why.specs.Said.{given, Reached};
 ghost use Rattle.menuwhy.specs.Room.{phrase_most};
 
-use libc::{STDERR_FILENO, STDOUT_FILENO};
 use phrases::arguments::Asked;
 use phrases::phrase::Phrase;
 use phrases::{arguments, names};
+use std::env::Env;
+use std::fs::File;
+use std::io::Write;
+use std::{io, str};
 use why::found::Wish;
 use why::telling;
 use why::telling::Begun;
@@ -23,70 +27,96 @@ const BAD_NAME: usize = 1;
 // How long the buffers are. A file is shorter: one that fills its buffer is not taken.
 const BUFFER: usize = 65536;
 
-fn usage() {
-    io::write_all(
-        STDERR_FILENO,
-        b"usage: menuwhy [--all] [--states] [--names FILE] NET LOG [LAST]\n",
-    );
+// And one for a word that the program is started with. A longer one arrives with no bytes.
+const WORD_MOST: usize = 4096;
+
+fn usage<W: Write>(to: &mut W) -> io::Result<()> {
+    to.write_all(b"usage: menuwhy [--all] [--states] [--names FILE] NET LOG [LAST]\n")
 }
 
 // Takes the words behind the program's own name.
-fn take_arguments() -> Asked {
-    let count = os::arg_count();
+fn take_arguments<E: Env>(env: &E) -> Asked {
+    let count = streams::argument_count(env);
     let mut asked = Asked::nothing();
     let mut i = 1;
     while i < count {
-        let mut word = io::buffer();
-        let n = os::arg(i, &mut word);
+        let mut word = [0u8; WORD_MOST];
+        let n = streams::argument(env, i, &mut word);
         asked = arguments::take(asked, i, &word[..n]);
         i += 1;
     }
     asked
 }
 
-// Fills the buffer from the file that argument i names, and answers how many bytes it has; or says on standard error why there are none, and answers the
+// Says on standard error why a file was not opened, in the system's words.
+fn tell_unopened(rt: &HostRuntime, name: &str, error: &io::Error) -> io::Result<()> {
+    let text = format!(in rt.alloc(); "{error}")?;
+    let words = match text.as_str().split_once(" (os error ") {
+        Some((words, _)) => words,
+        None => text.as_str(),
+    };
+    eprintln!(rt; "{name}: {words}")
+}
+
+// Fills the buffer from the file of this name, and answers how many bytes it has; or says on standard error why there are none, and answers the
 // buffer's length, which no file that is taken has.
-fn read_file(i: usize, buf: &mut [u8]) -> usize
-    ensures upper_bound { result ≤ length buf.new }
+fn read_named(rt: &HostRuntime, name: &str, buf: &mut [u8]) -> io::Result<usize>
+    ensures upper_bound { IfOk result (λ n. n ≤ length buf.new) }
     ensures buf_len_unchanged { length buf.new ≡ length buf.old }
 {
-    let mut path = io::buffer();
-    let n = os::arg(i, &mut path);
-    let file = os::open_read(&path[..n]);
-    if file < 0 {
-        os::fail(&path[..n]);
-        return buf.len();
-    }
-    let got = io::read_full(file, buf);
-    libc::close(file);
+    let mut file = match File::open(rt, name) {
+        Ok(file) => file,
+        Err(error) => {
+            tell_unopened(rt, name, &error)?;
+            return Ok(buf.len());
+        }
+    };
+    let got = streams::read_full(&mut file, buf)?;
     if got == buf.len() {
-        io::write_all(STDERR_FILENO, &path[..n]);
-        io::write_all(STDERR_FILENO, b": longer than 65535 bytes\n");
+        eprintln!(rt; "{name}: longer than 65535 bytes")?;
     }
-    got
+    Ok(got)
+}
+
+// The same, of the file that argument i names. A name that is no text is none that a file can be opened by here.
+fn read_file(rt: &HostRuntime, i: usize, buf: &mut [u8]) -> io::Result<usize>
+    ensures upper_bound { IfOk result (λ n. n ≤ length buf.new) }
+    ensures buf_len_unchanged { length buf.new ≡ length buf.old }
+{
+    let mut word = [0u8; WORD_MOST];
+    let n = streams::argument(rt, i, &mut word);
+    match str::from_utf8(&word[..n]) {
+        Ok(name) => read_named(rt, name, buf),
+        Err(_) => {
+            let mut stderr = rt.stderr();
+            stderr.write_all(&word[..n])?;
+            stderr.write_all(b": not a text\n")?;
+            Ok(buf.len())
+        }
+    }
 }
 
 // Writes what has been put into the buffer.
-fn flush(out: &[u8], end: usize)
+fn flush<W: Write>(to: &mut W, out: &[u8], end: usize) -> io::Result<()>
     requires { end ≤ length out.now }
 {
-    io::write_all(STDOUT_FILENO, &out[..end]);
+    to.write_all(&out[..end])
 }
 
 // Where the next phrase goes: behind the last one, or at the front once the buffer is written, where it might not have room for one more.
-fn make_room(out: &[u8], end: usize) -> usize
+fn make_room<W: Write>(to: &mut W, out: &[u8], end: usize) -> io::Result<usize>
     requires { (end ≤ length out.now) × (phrase_most ≤ length out.now) }
-    ensures { result + phrase_most ≤ length out.now }
+    ensures { IfOk result (λ at. at + phrase_most ≤ length out.now) }
 {
     if out.len() - end < table::PHRASE_MOST {
-        flush(out, end);
-        return 0;
+        flush(to, out, end)?;
+        return Ok(0);
     }
-    end
+    Ok(end)
 }
 
 // Tells the lines of the file of names that cannot be read. (No line's number is above the length of the file, for a bad line has bytes.)
-fn tell_bad_names(names: &[u8], out: &mut [u8])
+fn tell_bad_names<W: Write>(to: &mut W, names: &[u8], out: &mut [u8]) -> io::Result<()>
     requires { phrase_most ≤ length out.old }
     ensures { length out.new ≡ length out.old }
 {
@@ -94,16 +124,18 @@ fn tell_bad_names(names: &[u8], out: &mut [u8])
     while line <= names.len() {
         let bad = names::next_bad(names, line);
         if bad <= line {
-            return;
+            return Ok(());
         }
         let end = table::put(out, 0, Phrase::one(BAD_NAME, bad), names);
-        flush(out, end);
+        flush(to, out, end)?;
         line = bad;
     }
+    Ok(())
 }
 
 // Tells phrase after phrase, from where the telling begins.
-fn tell_all(
+fn tell_all<W: Write>(
+    to: &mut W,
     net: &[u8],
     log: &[u8],
     state: &mut [u8],
@@ -112,7 +144,7 @@ fn tell_all(
     wish: Wish,
     names: &[u8],
     out: &mut [u8],
-)
+) -> io::Result<()>
     requires reached { Reached (given net.now log.now state.old begun.found wish) state.old begun.cursor }
     requires log_in_bounds { (length log.now ≤ length portion.old) × (phrase_most ≤ length out.old) }
 {
@@ -123,76 +155,97 @@ fn tell_all(
         let said = telling::next(net, log, state, portion, found, wish, cursor);
         let phrase = said.phrase;
         cursor = said.cursor;
-        let at = make_room(out, end);
+        let at = make_room(to, out, end)?;
         end = table::put(out, at, phrase, names);
     }
-    flush(out, end);
+    flush(to, out, end)
 }
 
 // Reads the file that argument i names; there is none, and no bytes, where i is 0.
-fn read_if_given(i: usize, buf: &mut [u8]) -> usize
-    ensures upper_bound { result ≤ length buf.new }
+fn read_if_given(rt: &HostRuntime, i: usize, buf: &mut [u8]) -> io::Result<usize>
+    ensures upper_bound { IfOk result (λ n. n ≤ length buf.new) }
     ensures buf_len_unchanged { length buf.new ≡ length buf.old }
 {
     if i == 0 {
-        return 0;
+        return Ok(0);
     }
-    read_file(i, buf)
+    read_file(rt, i, buf)
 }
 
 // Tells what there is to tell of the files.
-fn tell(net: &[u8], log: &[u8], last: &mut [u8], names: &[u8], asked: Asked, out: &mut [u8])
+fn tell<W: Write>(
+    to: &mut W,
+    net: &[u8],
+    log: &[u8],
+    last: &mut [u8],
+    names: &[u8],
+    asked: Asked,
+    out: &mut [u8],
+) -> io::Result<()>
     requires { (length log.now ≤ 65536) × (phrase_most ≤ length out.old) }
 {
-    let mut state = io::large_buffer();
-    let mut portion = io::large_buffer();
+    let mut state = [0u8; BUFFER];
+    let mut portion = [0u8; BUFFER];
     let wish = Wish {
         all: asked.all,
         states: asked.states,
     };
-    tell_bad_names(names, out);
+    tell_bad_names(to, names, out)?;
     let begun = telling::begin(net, log, &mut state, last, 0 < asked.last, wish);
-    tell_all(net, log, &mut state, &mut portion, begun, wish, names, out);
+    tell_all(
+        to,
+        net,
+        log,
+        &mut state,
+        &mut portion,
+        begun,
+        wish,
+        names,
+        out,
+    )
 }
 
 // Reads the files, and tells.
-fn serve(asked: Asked) {
-    let mut net = io::large_buffer();
-    let n = read_file(asked.net, &mut net);
+fn serve(rt: &HostRuntime, asked: Asked) -> io::Result<()> {
+    let mut net = [0u8; BUFFER];
+    let n = read_file(rt, asked.net, &mut net)?;
     if n == BUFFER {
-        return;
+        return Ok(());
     }
-    let mut log = io::large_buffer();
-    let l = read_file(asked.log, &mut log);
+    let mut log = [0u8; BUFFER];
+    let l = read_file(rt, asked.log, &mut log)?;
     if l == BUFFER {
-        return;
+        return Ok(());
     }
-    let mut last = io::large_buffer();
-    let s = read_if_given(asked.last, &mut last);
+    let mut last = [0u8; BUFFER];
+    let s = read_if_given(rt, asked.last, &mut last)?;
     if s == BUFFER {
-        return;
+        return Ok(());
     }
-    let mut names = io::large_buffer();
-    let m = read_if_given(asked.names, &mut names);
+    let mut names = [0u8; BUFFER];
+    let m = read_if_given(rt, asked.names, &mut names)?;
     if m == BUFFER {
-        return;
+        return Ok(());
     }
-    let mut out = io::large_buffer();
+    let mut out = [0u8; BUFFER];
+    let mut stdout = rt.stdout();
     tell(
+        &mut stdout,
         &net[..n],
         &log[..l],
         &mut last[..s],
         &names[..m],
         asked,
         &mut out,
-    );
+    )
 }
 
-fn main() {
-    let asked = take_arguments();
+fn main(rt: HostRuntime) -> io::Result<()> {
+    let asked = take_arguments(&rt);
     if asked.is_complete() {
-        serve(asked);
+        serve(&rt, asked)
     } else {
-        usage();
+        let mut stderr = rt.stderr();
+        usage(&mut stderr)
     }
 }

@@ -130,3 +130,9 @@ pub data Sheets (state : List ℕ) (cells : ℕ) : List ℕ → ℕ → List ℕ
   last : {b : List ℕ} {next : ℕ} → ltb next cells ≡ false → Sheets state cells b next b
   more : {b b₁ after : List ℕ} {next end next₁ : ℕ} → ltb next cells ≡ true → RunLines state cells b 0 (next_running state cells next) b₁ end next₁
       → Sheets state cells b₁ next₁ after → Sheets state cells b next after
+
+-- and where not all of them were written: `now` is one of them, or the first
+pub data SheetsSoFar (state : List ℕ) (cells : ℕ) : List ℕ → ℕ → List ℕ → Type 0 where
+  here : {b : List ℕ} {next : ℕ} → SheetsSoFar state cells b next b
+  further : {b b₁ now : List ℕ} {next end next₁ : ℕ} → ltb next cells ≡ true → RunLines state cells b 0 (next_running state cells next) b₁ end next₁
+      → SheetsSoFar state cells b₁ next₁ now → SheetsSoFar state cells b next now

@@ -1,11 +1,13 @@
 // What a program writes: a buffer with the first line or two, and the lines of the counts as far as there is room; then the buffers with
 // the others.
-ghost use Rattle.std.specs.Prelude.{◌≡◌, ◌+◌, ◌≤◌, length};
+ghost use Rattle.std.specs.Prelude.{◌≡◌, ◌+◌, ◌≤◌, length, OnOk, OnErr};
 ghost use Rattle.replay.specs.Replayed.{longest_state, replayed, replay_left};
-ghost use Rattle.replay.specs.Lines.{least_buffer, run_most, cells_shown, LateShown, Reads, FirstSheet, Sheets};
+ghost use Rattle.replay.specs.Lines.{least_buffer, run_most, cells_shown, LateShown, Reads, FirstSheet, Sheets, SheetsSoFar};
 
 use crate::input::Replayed;
 use crate::{input, lines};
+use std::io;
+use std::io::Write;
 
 // The place behind the last line, the cell whose line is to come, and how many cells are looked at; `print` goes on from there.
 #[derive(Clone, Copy)]
@@ -47,21 +49,22 @@ pub fn first(input: &[u8], state: &mut [u8], out: &mut [u8]) -> Sheet
     show(out, 0, told, state)
 }
 
-// Writes a sheet to a file descriptor, and then the lines of the counts that are still to come: a buffer at a time, since by the bound of a
-// line they might be more than one has room for.
-pub fn print(to: i32, out: &mut [u8], state: &[u8], sheet: Sheet)
+// Writes a sheet, and then the lines of the counts that are still to come: a buffer at a time, since by the bound of a line they might be more
+// than one has room for. Where a write fails, the buffer holds the sheet or the lines that were not written whole.
+pub fn print<W: Write>(to: &mut W, out: &mut [u8], state: &[u8], sheet: Sheet) -> io::Result<()>
     requires end_in_bounds { (sheet.end ≤ length out.old) × (run_most ≤ length out.old) }
     requires reads { Reads state.now sheet.cells }
-    ensures { Sheets state.now sheet.cells out.old sheet.next out.new }
+    ensures ok { OnOk result (Sheets state.now sheet.cells out.old sheet.next out.new) }
+    ensures err { OnErr result (SheetsSoFar state.now sheet.cells out.old sheet.next out.new) }
 {
     let cells = sheet.cells;
     let mut end = sheet.end;
     let mut next = sheet.next;
     while next < cells {
-        io::write_all(to, &out[..end]);
+        to.write_all(&out[..end])?;
         let filled = lines::runs(out, 0, state, cells, next);
         end = filled.end;
         next = filled.next;
     }
-    io::write_all(to, &out[..end]);
+    to.write_all(&out[..end])
 }
