@@ -3,6 +3,14 @@
 use mathlib.Core.Path.{◌≡◌, refl, sym, ◌∙◌}
 use mathlib.Core.List.{List, []}
 use Prim.Native.Nat.{ℕ, ◌+◌}
+use contract.Lifetimes.{Lfts}
+use denote.Triple.Clauses.{AtExit}
+use denote.RattleType.{RattleType}
+use denote.Param.Laws.{Laws}
+use mir.Syntax.{Dict}
+use borrow.Fn.Kinds.{Dens, ended_of}
+use Rattle.std.specs.Prelude.{Ok}
+use Rattle.std.specs.declared.io.traits.Write.{Ghosts}
 use Rattle.model.proofs.Determined.{Determined, LeavesOne}
 use Rattle.text.proofs.Determined.{line-once}
 use Rattle.replay.specs.declared.input.Replayed.{Replayed}
@@ -166,5 +174,8 @@ sheets-once s cells b next after after' (further {b₁} {end} {next₁} e l r) (
     let (stands, ends, goes) = runs-once s cells b 0 (next_running s cells next) b₂ b₁ end₂ end next₂ next₁ m l in
     sheets-once s cells b₁ next₁ after after' r (rw (stands, goes) at q)
 
-pub print-leaves : LeavesOne 2 print-kinds.ps print-kinds.r print.Learnt (λ κs s. s.1.0.now)
-print-leaves κs args x y s s' p q = sheets-once _ _ _ _ s.1.0.now s'.1.0.now p q
+-- whatever it is written to, where all of it was written
+module _ (W : RattleType) (L : Laws W) (G : Ghosts W.Denot) (d : Dict) where
+  pub print-leaves : (κs : Lfts 4) (args : Dens κs (print-kinds.ps W L)) (s s' : AtExit (ended_of 4 (print-kinds.ps W L) (print-kinds.r W L)) κs)
+      → print.Learnt W L G d κs args (Ok tt) s → print.Learnt W L G d κs args (Ok tt) s' → s.1.0.now ≡ s'.1.0.now
+  print-leaves κs args s s' p q = sheets-once _ _ _ _ s.1.0.now s'.1.0.now p.0 q.0
