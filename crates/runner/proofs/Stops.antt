@@ -159,6 +159,7 @@ module _ (N : Net) (proper : Proper N) (S : State) where
       let same : t ≡ u = cc in absurd (lacks-fails N S u f (rw (← same) o.1))
   met (Chooses.start none (o, lower)) (Refuses.old_end_owed l en a) = absurd (a (λ u b old. none u b))
   met (Chooses.start none (o, lower)) (Refuses.count_full l en _ a) = Met.count_full
+  met {why = why} (Chooses.tick none none' runs) (Refuses.unfit u) = elim u [ ]
   met (Chooses.tick none none' runs) (Refuses.not_enabled (u, e, l, f)) = let z : ◌≡◌ {A = ℕ} 0 1 = cc in absurd (omega arith)
   met (Chooses.tick none none' runs) (Refuses.start_owed a) = absurd (a none')
   met (Chooses.tick none none' runs) (Refuses.end_owed n a) = absurd (a none)

@@ -1,5 +1,6 @@
 // The page runner: it chooses event after event by the rule, does each, and writes it to a log.
 #![tactic(auto)]
+
 pub mod build;
 pub mod call;
 pub mod choose;

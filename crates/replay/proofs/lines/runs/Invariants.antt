@@ -1,0 +1,20 @@
+-- `lines::runs` meets its contract. The loop keeps that what is put from here on completes the lines.
+use mathlib.Core.Path.{◌≡◌, refl}
+use mathlib.Core.List.{List}
+use Prim.Native.Nat.{ℕ, ◌-◌, ◌≤◌}
+use native.Mathlib.Omega.{arith}
+use lib.ListN.{length}
+use Rattle.replay.specs.Lines.{RunLines}
+use Rattle.replay.specs.Lines.RunLines.{stop, more}
+use Rattle.replay.proofs.Cells.{reads-shown}
+use Rattle.replay.proofs.Runs.{stops-full, stops-over, goes_on}
+use borrow.Author.Rules.{rules}
+use Rattle.replay.proofs.lines.runs.Given as goal
+
+abbrev pub invariant-loop-cell : goal.invariant-loop-cell
+invariant-loop-cell l =
+    (l.cell ≤ l.cells) × (l.end ≤ length l.out) × (length l.out ≡ length l.initial.out)
+    × ((b : List ℕ) (e n : ℕ) → RunLines l.state l.cells l.out l.end l.cell b e n → RunLines l.state l.cells l.initial.out l.at l.initial.cell b e n)
+
+abbrev pub decreases-loop-cell : goal.decreases-loop-cell
+decreases-loop-cell l = l.cells - l.cell
