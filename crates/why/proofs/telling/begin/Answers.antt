@@ -7,4 +7,4 @@ pub returns : goal.returns
 returns c =
     let a = c.args in
     let look = c.look-found in
-    let first = c.first-cursor in record { value = begun-so look.result first.result _ a.wish look.ensures.value first.ensures; state_after = look.ensures.state_after; last_after = look.ensures.last_after; reached = rw first.ensures (begins-well a.net.now a.log.now look.new.log.1.0 look.result a.wish look.ensures.ready) }
+    let first = c.first-cursor in record { value = begun-so look.result first.result _ a.wish look.ensures.value first.ensures; state_after = look.ensures.state_after; last_after = look.ensures.last_after; reached = rw (← first.ensures) at (begins-well a.net.now a.log.now look.new.state look.result a.wish look.ensures.ready) }

@@ -23,16 +23,28 @@ pub returns-in-Step : goal.returns-in-Step
 returns-in-Step c =
     let a = c.args in
     let s = c.step in
-    let at = c.in-Step.is in record { goes_on = goes_so a.net.now a.log.now a.state.now a.portion.now a.found a.wish a.cursor (part.Step c.in-Step.p) at s.result s.new.log.1.0 s.new.log.1.1.0 s.ensures.steps_to; tells_on = (λ first reached.
-            steps-tell a.net.now a.log.now first a.found a.wish a.cursor a.state.now c.in-Step.p at reached
-            s.result s.new.log.1.0 a.portion.now s.new.log.1.1.0 s.ensures.steps_to); portion_len_unchanged = s.ensures.portion_len_unchanged }
+    let at = c.in-Step.is in record {
+      goes_on = goes_so a.net.now a.log.now a.state.now a.portion.now a.found a.wish a.cursor (part.Step c.in-Step.p) at s.result s.new.state s.new.portion s.ensures.steps_to;
+      tells_on = (λ first reached.
+          steps-tell a.net.now a.log.now first a.found a.wish a.cursor a.state.now c.in-Step.p at reached
+          s.result s.new.state a.portion.now s.new.portion s.ensures.steps_to);
+      portion_len_unchanged = s.ensures.portion_len_unchanged;
+    }
 
 pub returns-in-Verdict : goal.returns-in-Verdict
 returns-in-Verdict c =
-    let a = c.args in record { goes_on = goes_so a.net.now a.log.now a.state.now a.portion.now a.found a.wish a.cursor (part.Verdict c.in-Verdict.p) c.in-Verdict.is c.next.result a.state.now a.portion.now (c.next.ensures, (refl, refl)); tells_on = (λ first reached.
-            rw c.next.ensures (verdict-on a.net.now a.log.now first a.found a.wish a.cursor a.state.now c.in-Verdict.p c.in-Verdict.is reached)); portion_len_unchanged = refl }
+    let a = c.args in record {
+      goes_on = goes_so a.net.now a.log.now a.state.now a.portion.now a.found a.wish a.cursor (part.Verdict c.in-Verdict.p) c.in-Verdict.is c.next.result a.state.now a.portion.now (c.next.ensures, (refl, refl));
+      tells_on = (λ first reached.
+          rw c.next.ensures (verdict-on a.net.now a.log.now first a.found a.wish a.cursor a.state.now c.in-Verdict.p c.in-Verdict.is reached));
+      portion_len_unchanged = refl;
+    }
 
 pub returns-in-Last : goal.returns-in-Last
 returns-in-Last c =
-    let a = c.args in record { goes_on = goes_so a.net.now a.log.now a.state.now a.portion.now a.found a.wish a.cursor (part.Last c.in-Last.p) c.in-Last.is c.next-in-Last.result a.state.now a.portion.now (c.next-in-Last.ensures, (refl, refl)); tells_on = (λ first reached.
-            rw c.next-in-Last.ensures (last-tells (given a.net.now a.log.now first a.found a.wish) a.state.now a.cursor c.in-Last.p c.in-Last.is)); portion_len_unchanged = refl }
+    let a = c.args in record {
+      goes_on = goes_so a.net.now a.log.now a.state.now a.portion.now a.found a.wish a.cursor (part.Last c.in-Last.p) c.in-Last.is c.next-in-Last.result a.state.now a.portion.now (c.next-in-Last.ensures, (refl, refl));
+      tells_on = (λ first reached.
+          rw c.next-in-Last.ensures (last-tells (given a.net.now a.log.now first a.found a.wish) a.state.now a.cursor c.in-Last.p c.in-Last.is));
+      portion_len_unchanged = refl;
+    }
