@@ -7,11 +7,13 @@ pub returns-then-begun-ne0 : goal.returns-then-begun-ne0
 returns-then-begun-ne0 c =
     let a = c.args in
     let v = c.initial-begun in
-    net-refused a.net.now a.state.now v.result v.new.state v.ensures.initial_promise v.ensures.value v.ensures.state_after a.log.now a.budget c.if-begun-ne0.true c.refused.result c.refused.ensures -- !! labels ['value', 'state_after', 'log_after', 'log_in_bounds', 'as_replayed']
+    let both = net-refused a.net.now a.state.now v.result v.new.state v.ensures.initial_promise v.ensures.value v.ensures.state_after a.log.now a.budget c.if-begun-ne0.true c.refused.result c.refused.ensures in
+    record { value = both.0; state_after = both.1.0; log_after = both.1.1.0; log_in_bounds = both.1.1.1.0; as_replayed = both.1.1.1.1 }
 
 pub returns : goal.returns
 returns c =
     let a = c.args in
     let v = c.initial-begun in
     let f = c.build_from in
-    net-built a.net.now a.state.now v.result v.new.state v.ensures.initial_promise v.ensures.value v.ensures.state_after a.log.now a.budget c.if-begun-ne0.false f.result f.new.state f.new.log f.ensures.value f.ensures.state_after f.ensures.log_after f.ensures.log_in_bounds f.ensures.as_run -- !! labels ['value', 'state_after', 'log_after', 'log_in_bounds', 'as_replayed']
+    let both = net-built a.net.now a.state.now v.result v.new.state v.ensures.initial_promise v.ensures.value v.ensures.state_after a.log.now a.budget c.if-begun-ne0.false f.result f.new.state f.new.log f.ensures.value f.ensures.state_after f.ensures.log_after f.ensures.log_in_bounds f.ensures.as_run in
+    record { value = both.0; state_after = both.1.0; log_after = both.1.1.0; log_in_bounds = both.1.1.1.0; as_replayed = both.1.1.1.1 }

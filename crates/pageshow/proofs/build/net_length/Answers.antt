@@ -11,9 +11,9 @@ use Rattle.pageshow.proofs.build.net_length.Goals as goal
 pub returns-then-input-gt-LONGEST_NET : goal.returns-then-input-gt-LONGEST_NET
 unfolding row_at alone_length
 returns-then-input-gt-LONGEST_NET c =
-     record { value = rw (lt-leb (length c.args.input.now) longest_net c.if-input-gt-LONGEST_NET.true) refl; upper_bound = omega arith }
+    record { value = rw (lt-leb (length c.args.input.now) longest_net c.if-input-gt-LONGEST_NET.true) refl; upper_bound = omega arith }
 
 pub returns : goal.returns
 unfolding row_at alone_length
 returns c =
-     record { value = rw (le-leb (length c.args.input.now) longest_net c.if-input-gt-LONGEST_NET.false) refl; upper_bound = omega arith }
+    record { value = rw (le-leb (length c.args.input.now) longest_net c.if-input-gt-LONGEST_NET.false) refl; upper_bound = omega arith }
