@@ -19,7 +19,7 @@ def command():
     given = os.environ.get("MENUASK")
     if given:
         return shlex.split(given)
-    if not os.access(os.path.join(ROOT, "target", "bin", "menuask"), os.X_OK):
+    if not os.access(os.path.join(ROOT, "crates", "menuask", "out", "menuask"), os.X_OK):
         build = [os.path.join(ROOT, "bin", "run"), "menuask"]
         if subprocess.run(build, stdin=subprocess.DEVNULL, stdout=subprocess.DEVNULL).returncode:
             raise Broken("menuask is not built, and bin/run menuask does not build it")
