@@ -1,5 +1,5 @@
 -- `tell_all` is safe and ends: with each phrase less is still to be told.
-use mathlib.Core.Path.{◌≡◌, ◌∙◌}
+use mathlib.Core.Path.{◌∙◌}
 use native.Mathlib.Omega.{arith}
 use Rattle.menuwhy.proofs.tell_all.Goals as goal
 

@@ -1,14 +1,7 @@
 -- `arguments::number_of` meets its contract. The loop keeps that all bytes so far are digits, and what they say.
-use mathlib.Core.Path.{◌≡◌}
-use mathlib.Core.Bool.{true}
-use Prim.Native.Nat.{◌-◌, ◌^◌, ◌<◌, ◌≤◌}
 use native.Mathlib.Omega.{arith}
-use lib.ListN.{length}
-use Rattle.model.specs.Tab.{all}
 use Rattle.model.proofs.Alls.{all-begin}
-use Rattle.pageshow.specs.Arguments.{value_to}
-use Rattle.pageshow.proofs.Words.{figure, none, too_many, below-digits, above-digits, too_large, budget-is, figure-turn, value-begins, value-turn, small-turn, small}
-use borrow.Author.Rules.{rules}
+use Rattle.pageshow.proofs.Words.{figure, none, too_many, below-digits, above-digits, too_large, budget-is, figure-turn, value-begins, value-turn, small-turn}
 use Rattle.pageshow.proofs.arguments.number_of.Goals as goal
 
 pub returns-then-word-lt1 : goal.returns-then-word-lt1

@@ -2,13 +2,10 @@
 use mathlib.Core.Path.{◌≡◌}
 use mathlib.Core.Bool.{true}
 use Prim.Native.Nat.{◌-◌, ◌^◌, ◌<◌, ◌≤◌}
-use native.Mathlib.Omega.{arith}
 use lib.ListN.{length}
 use Rattle.model.specs.Tab.{all}
-use Rattle.model.proofs.Alls.{all-begin}
 use Rattle.pageshow.specs.Arguments.{value_to}
-use Rattle.pageshow.proofs.Words.{figure, none, too_many, below-digits, above-digits, too_large, budget-is, figure-turn, value-begins, value-turn, small-turn, small}
-use borrow.Author.Rules.{rules}
+use Rattle.pageshow.proofs.Words.{figure}
 use Rattle.pageshow.proofs.arguments.number_of.Given as goal
 
 abbrev pub invariant-loop-i : goal.invariant-loop-i

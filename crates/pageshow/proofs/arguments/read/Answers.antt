@@ -2,7 +2,6 @@
 use mathlib.Core.Path.{ap, ap₂, ◌∙◌}
 use Rattle.pageshow.specs.Arguments.{one_asks, two_ask}
 use Rattle.pageshow.proofs.Words.{no_word, one_word, two-words, many-words}
-use borrow.Author.Rules.{rules}
 use Rattle.pageshow.proofs.arguments.read.Goals as goal
 
 pub returns-then-count-eq0 : goal.returns-then-count-eq0

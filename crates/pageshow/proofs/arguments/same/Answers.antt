@@ -1,13 +1,7 @@
 -- `arguments::same` meets its contract. The loop keeps that the bytes so far agree.
-use mathlib.Core.Path.{◌≡◌}
-use mathlib.Core.Bool.{true}
-use Prim.Native.Nat.{◌-◌, ◌≤◌}
 use native.Mathlib.Omega.{arith}
-use lib.ListN.{length}
-use Rattle.model.specs.Tab.{all}
 use Rattle.model.proofs.Alls.{all-begin}
 use Rattle.pageshow.proofs.Words.{agree, other_length, differs, agrees, same-all}
-use borrow.Author.Rules.{rules}
 use Rattle.pageshow.proofs.arguments.same.Goals as goal
 
 pub returns-then-a-b : goal.returns-then-a-b

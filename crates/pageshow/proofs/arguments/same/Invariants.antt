@@ -2,12 +2,9 @@
 use mathlib.Core.Path.{◌≡◌}
 use mathlib.Core.Bool.{true}
 use Prim.Native.Nat.{◌-◌, ◌≤◌}
-use native.Mathlib.Omega.{arith}
 use lib.ListN.{length}
 use Rattle.model.specs.Tab.{all}
-use Rattle.model.proofs.Alls.{all-begin}
-use Rattle.pageshow.proofs.Words.{agree, other_length, differs, agrees, same-all}
-use borrow.Author.Rules.{rules}
+use Rattle.pageshow.proofs.Words.{agree}
 use Rattle.pageshow.proofs.arguments.same.Given as goal
 
 abbrev pub invariant-loop-i : goal.invariant-loop-i

@@ -1,6 +1,5 @@
 -- `arguments::word_of` meets its contract.
 use Rattle.pageshow.proofs.Words.{log-word, no-log-word}
-use borrow.Author.Rules.{rules}
 use Rattle.pageshow.proofs.arguments.word_of.Goals as goal
 
 pub returns-then-same : goal.returns-then-same

@@ -1,6 +1,5 @@
 -- `build::build` meets its contract: the initial state, and then the page.
 use Rattle.pageshow.proofs.Pages.{net-refused, net-built}
-use borrow.Author.Rules.{rules}
 use Rattle.pageshow.proofs.build.build.Goals as goal
 
 pub returns-then-begun-ne0 : goal.returns-then-begun-ne0

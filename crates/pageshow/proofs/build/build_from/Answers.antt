@@ -1,7 +1,5 @@
 -- `build::build_from` meets its contract: the page, and the standing of the state that it left.
-use native.Mathlib.Omega.{arith}
-use Rattle.pageshow.proofs.Pages.{log-fits, page-refused, page-told}
-use borrow.Author.Rules.{rules}
+use Rattle.pageshow.proofs.Pages.{page-told}
 use Rattle.pageshow.proofs.build.build_from.Goals as goal
 
 pub returns : goal.returns
