@@ -18,7 +18,7 @@ use Rattle.forms.specs.Frame.{Framed, Began}
 use Rattle.forms.proofs.Written.{written-own}
 use Rattle.runs.specs.declared.told.RunTold.{RunTold}
 use Rattle.runs.specs.declared.told.WalkTold.{WalkTold}
-use Rattle.runs.specs.Runs.{told_of_run, ran}
+use Rattle.runs.specs.Runs.{told_of_run}
 use Rattle.engine.specs.declared.examine.Examined.{Examined}
 use Rattle.engine.specs.declared.examine.Examined.TheVariants as examined
 use Rattle.engine.specs.Examined.{examine_state, examine_log}

@@ -3,7 +3,6 @@ use mathlib.Core.Path.{refl}
 use lib.ListN.{length}
 use borrow.Author.Tests.{lt-ltb, le-ltb}
 use Rattle.why.specs.State.{length_field}
-use borrow.Author.Rules.{rules}
 use Rattle.why.proofs.bytes.length_field.Goals as goal
 
 pub returns-then-s-lt5 : goal.returns-then-s-lt5

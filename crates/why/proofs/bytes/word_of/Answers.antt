@@ -2,7 +2,6 @@
 use mathlib.Core.Path.{refl}
 use native.Mathlib.Omega.{arith}
 use Rattle.forms.specs.Word.{word}
-use borrow.Author.Rules.{rules}
 use Rattle.why.proofs.bytes.word_of.Goals as goal
 
 pub returns : goal.returns

@@ -11,7 +11,6 @@ use Rattle.forms.specs.Places.{event_at}
 use Rattle.phrases.specs.declared.phrase.Phrase.{Phrase}
 use Rattle.why.specs.Words.{tick_word}
 use Rattle.why.specs.Report.{plain, say_event, event_phrase}
-use borrow.Author.Rules.{rules}
 use Rattle.why.proofs.events.event_phrase.Goals as goal
 
 module _ (log : List ℕ) (i : ℕ) where

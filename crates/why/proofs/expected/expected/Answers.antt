@@ -1,6 +1,5 @@
 -- `expected::expected` meets its contract: by the number.
 use Rattle.why.proofs.Endings.{expected-log, expected-net, expected-counts, expected-length, expected-row}
-use borrow.Author.Rules.{rules}
 use Rattle.why.proofs.expected.expected.Goals as goal
 
 pub returns-then-number-eq-LOG_FRAME : goal.returns-then-number-eq-LOG_FRAME

@@ -1,7 +1,6 @@
 -- `last::fit` meets its contract: the log leads to it, or to another, or was refused.
 use mathlib.Core.Path.{◌∙◌}
 use Rattle.why.proofs.Endings.{saying, fit-before, fit-elsewhere, fit_same, fit-other}
-use borrow.Author.Rules.{rules}
 use Rattle.why.proofs.last.fit.Goals as goal
 
 pub returns-then-last : goal.returns-then-last

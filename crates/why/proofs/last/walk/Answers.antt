@@ -1,7 +1,6 @@
 -- `last::walk` meets its contract: it ends at the front, or stops.
 use mathlib.Core.Path.{◌∙◌}
 use Rattle.why.proofs.Endings.{saying, walk_ends, walk-stops}
-use borrow.Author.Rules.{rules}
 use Rattle.why.proofs.last.walk.Goals as goal
 
 pub returns-then-walk-eq0 : goal.returns-then-walk-eq0

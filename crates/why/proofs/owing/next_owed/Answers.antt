@@ -1,10 +1,7 @@
 -- `owing::next_owed` meets its contract. The loop keeps what is the next from here on.
-use mathlib.Core.Path.{◌≡◌, refl, sym, ◌∙◌}
-use Prim.Native.Nat.{◌-◌}
-use Rattle.why.specs.Each.{next_from}
+use mathlib.Core.Path.{sym, ◌∙◌}
 use Rattle.why.specs.State.{owed_most, does_owe}
 use Rattle.why.proofs.Nexts.{seek-here, seek-on, seek-none}
-use borrow.Author.Rules.{rules}
 use Rattle.why.proofs.owing.next_owed.Goals as goal
 
 pub returns-then-owes : goal.returns-then-owes

@@ -1,7 +1,6 @@
 -- `owing::owed_phrase` meets its contract: a start, or an end.
 use borrow.Author.Tests.{lt-ltb, le-ltb}
 use Rattle.why.specs.State.{owed_phrase}
-use borrow.Author.Rules.{rules}
 use Rattle.why.proofs.owing.owed_phrase.Goals as goal
 
 pub returns-then-i-lt64 : goal.returns-then-i-lt64

@@ -1,7 +1,6 @@
 -- `owing::owes` meets its contract: the starts, and behind them the ends.
 use borrow.Author.Tests.{lt-ltb, le-ltb}
 use Rattle.why.specs.State.{does_owe}
-use borrow.Author.Rules.{rules}
 use Rattle.why.proofs.owing.owes.Goals as goal
 
 pub returns-then-i-lt64 : goal.returns-then-i-lt64

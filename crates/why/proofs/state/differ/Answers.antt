@@ -6,7 +6,6 @@ use Prim.Native.Nat.{ℕ, ◌<◌, ◌≤◌}
 use lib.Dec.{ltb}
 use borrow.Author.Tests.{lt-ltb, le-ltb}
 use Rattle.why.specs.State.{word_count, held, first_other, difference_of}
-use borrow.Author.Rules.{rules}
 use Rattle.why.proofs.state.differ.Goals as goal
 
 module _ (a b : List ℕ) (at count : ℕ) (e : at ≡ first_other a b) (w : count ≡ word_count a) where

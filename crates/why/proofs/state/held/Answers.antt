@@ -1,6 +1,5 @@
 -- `state::held` meets its contract: the words begin behind 8 bytes.
 use Rattle.why.specs.State.{held}
-use borrow.Author.Rules.{rules}
 use Rattle.why.proofs.state.held.Goals as goal
 
 pub returns : goal.returns

@@ -8,7 +8,6 @@ use Rattle.phrases.specs.Phrase.{phrase}
 use Rattle.why.specs.declared.state.Cell.{Cell}
 use Rattle.why.specs.State.{held, cell_at, held_phrase}
 use Rattle.why.specs.Words.{mark_word, run_word}
-use borrow.Author.Rules.{rules}
 use Rattle.why.proofs.state.held_phrase.Goals as goal
 
 module _ (s : List ℕ) (i tokens marks : ℕ) (t : tokens ≡ held s i) (m : marks ≡ byte s 5) where

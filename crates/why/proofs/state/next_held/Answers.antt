@@ -1,13 +1,11 @@
 -- `state::next_held` meets its contract. The loop keeps what is the next from here on.
-use mathlib.Core.Path.{◌≡◌, refl}
+use mathlib.Core.Path.{◌≡◌}
 use mathlib.Core.Bool.{true, false}
 use mathlib.Core.List.{List}
-use Prim.Native.Nat.{ℕ, ◌-◌, ◌<◌, ◌≤◌}
+use Prim.Native.Nat.{ℕ, ◌<◌, ◌≤◌}
 use borrow.Author.Tests.{lt-ltb, le-ltb}
-use Rattle.why.specs.Each.{next_from}
 use Rattle.why.specs.State.{word_count, held, is_held}
 use Rattle.why.proofs.Nexts.{seek-here, seek-on, seek-none}
-use borrow.Author.Rules.{rules}
 use Rattle.why.proofs.state.next_held.Goals as goal
 
 -- a word holds something, or nothing

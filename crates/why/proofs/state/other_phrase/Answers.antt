@@ -9,7 +9,6 @@ use Rattle.phrases.specs.Phrase.{phrase}
 use Rattle.why.specs.declared.state.Cell.{Cell}
 use Rattle.why.specs.declared.state.Difference.{Difference}
 use Rattle.why.specs.State.{cell_at, other_phrase}
-use borrow.Author.Rules.{rules}
 use Rattle.why.proofs.state.other_phrase.Goals as goal
 
 module _ (marks runs : ℕ) (s : List ℕ) (d : Difference) (places : ℕ) (m : places ≡ byte s 5) where

@@ -1,6 +1,5 @@
 -- `telling::begin` meets its contract: where the telling begins all that is found is still to be told.
 use Rattle.why.proofs.Beginning.{begins-well, begun-so}
-use borrow.Author.Rules.{rules}
 use Rattle.why.proofs.telling.begin.Goals as goal
 
 pub returns : goal.returns

@@ -1,11 +1,6 @@
 -- `telling::first` meets its contract.
 use Rattle.why.proofs.Stepping.{is-so}
 use Rattle.why.proofs.Beginning.{begins-faulty, begins-later, begins-first}
-use borrow.Author.Rules.{rules}
-use Rattle.why.proofs.telling.first.Reads as reads
-use Rattle.why.proofs.telling.first.Lts as lts
-use Rattle.replay.proofs.input.is_early.Reads as is-early-reads
-use Rattle.why.proofs.telling.from_step.Reads as from-step-reads
 use Rattle.why.proofs.telling.first.Goals as goal
 
 pub returns-then-is_early : goal.returns-then-is_early

@@ -1,6 +1,5 @@
 -- `telling::from_step` meets its contract.
 use Rattle.why.proofs.Beginning.{from_all, from-few, from-later}
-use borrow.Author.Rules.{rules}
 use Rattle.why.proofs.telling.from_step.Goals as goal
 
 pub returns-then-wish : goal.returns-then-wish

@@ -1,16 +1,8 @@
 -- `telling::next` meets its contract: each arm tells its part's phrase.
 use mathlib.Core.Path.{refl}
-use Rattle.why.proofs.Remaining.{steps-from, steps-tell, verdict-on, last-tells, fault-tells, end-tells, not-over, goes_so}
+use Rattle.why.proofs.Remaining.{steps-from, steps-tell, verdict-on, last-tells, goes_so}
 use Rattle.why.specs.declared.cursor.Part.TheVariants as part
 use Rattle.why.specs.Said.{given}
-use borrow.Author.Rules.{rules}
-use Rattle.why.proofs.telling.next.Reads as reads
-use Rattle.why.proofs.telling.next.Lts as lts
-use Rattle.why.proofs.expected.next.Reads as expected-next-reads
-use Rattle.why.proofs.last.end.Reads as end_reads
-use Rattle.why.proofs.last.next.Reads as last-next-reads
-use Rattle.why.proofs.telling.step.Reads as step-reads
-use Rattle.why.proofs.verdict.next.Reads as verdict-next-reads
 use Rattle.why.proofs.telling.next.Goals as goal
 
 pub step-requires : goal.step-requires

@@ -1,7 +1,6 @@
 -- `verdict::outcome` meets its contract: accepted, or refused.
 use mathlib.Core.Path.{◌∙◌}
 use Rattle.why.proofs.Endings.{saying, outcome-accepted, outcome-refused}
-use borrow.Author.Rules.{rules}
 use Rattle.why.proofs.verdict.outcome.Goals as goal
 
 pub returns-then-told-eq0 : goal.returns-then-told-eq0

@@ -1,7 +1,6 @@
 -- `verdict::owed` meets its contract: one more is owed, or no more.
 use mathlib.Core.Path.{◌∙◌}
 use Rattle.why.proofs.Endings.{saying, next-is, owed_more, owed-accepted, owed-refused}
-use borrow.Author.Rules.{rules}
 use Rattle.why.proofs.verdict.owed.Goals as goal
 
 pub returns-then-i-lt-OWED_MOST : goal.returns-then-i-lt-OWED_MOST

@@ -1,7 +1,6 @@
 -- `verdict::why` meets its contract: a place is short, or not.
 use mathlib.Core.Path.{◌∙◌}
 use Rattle.why.proofs.Endings.{saying, why-short, why-other}
-use borrow.Author.Rules.{rules}
 use Rattle.why.proofs.verdict.why.Goals as goal
 
 pub returns-then-told-eq-NOT_ENABLED : goal.returns-then-told-eq-NOT_ENABLED
