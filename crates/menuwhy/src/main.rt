@@ -48,14 +48,18 @@ fn take_arguments<E: Env>(env: &E) -> Asked {
     asked
 }
 
-// Says on standard error why a file was not opened, in the system's words.
+// The system's words, without the number that the library puts behind them.
+fn without_number(text: &str) -> &str {
+    match text.split_once(" (os error ") {
+        Some((words, _)) => words,
+        None => text,
+    }
+}
+
+// Says on standard error why a file was not opened.
 fn tell_unopened(rt: &HostRuntime, name: &str, error: &io::Error) -> io::Result<()> {
     let text = format!(in rt.alloc(); "{error}")?;
-    let words = match text.as_str().split_once(" (os error ") {
-        Some((words, _)) => words,
-        None => text.as_str(),
-    };
-    eprintln!(rt; "{name}: {words}")
+    eprintln!(rt; "{name}: {}", without_number(text.as_str()))
 }
 
 // Fills the buffer from the file of this name, and answers how many bytes it has; or says on standard error why there are none, and answers the

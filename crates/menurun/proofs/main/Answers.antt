@@ -1,0 +1,11 @@
+-- `main` meets its contract: the buffers are as long as `answer` asks.
+use native.Mathlib.Omega.{arith}
+use Rattle.replay.proofs.Edges.{edges}
+use Rattle.menurun.proofs.main.Goals as goal
+
+pub answer-requires : goal.answer-requires
+answer-requires c = record {
+  enough_in_bounds = omega (arith, edges.read_enough);
+  longest_state_in_bounds = omega (arith, edges.longest-state);
+  least_buffer_in_bounds = omega arith;
+}

@@ -1,0 +1,38 @@
+-- `events::event_phrase` meets its contract: the two bytes of the event, and 0 where there are none.
+use mathlib.Core.Path.{◌≡◌, refl, ◌∙◌}
+use mathlib.Core.List.{List}
+use Prim.Native.Nat.{ℕ, ◌+◌, ◌/◌, ◌≤◌}
+use native.Mathlib.Omega.{arith}
+use lib.ListN.{length, get_or-eq_default}
+use Rattle.model.specs.declared.event.Event.{Event}
+use Rattle.model.specs.Event.{event_of}
+use Rattle.forms.specs.Word.{byte}
+use Rattle.forms.specs.Places.{event_at}
+use Rattle.phrases.specs.declared.phrase.Phrase.{Phrase}
+use Rattle.why.specs.Words.{tick_word}
+use Rattle.why.specs.Report.{plain, say_event, event_phrase}
+use borrow.Author.Rules.{rules}
+use Rattle.why.proofs.events.event_phrase.Goals as goal
+
+module _ (log : List ℕ) (i : ℕ) where
+  -- behind the log the bytes are 0, and that is a tick
+  behind-it : length log / 2 ≤ i → plain tick_word ≡ event_phrase log i
+  unfolding event_phrase
+  behind-it h =
+      let first : byte log (event_at i) ≡ 0 = get_or-eq_default log 0 (omega arith) in
+      let second : byte log (event_at i + 1) ≡ 0 = get_or-eq_default log 0 (omega arith) in
+      rw (first, second) refl
+
+  said : (first second : ℕ) (e : Event) (r : Phrase) → first ≡ byte log (event_at i) → second ≡ byte log (event_at i + 1)
+      → e ≡ event_of first second → r ≡ say_event e first second → r ≡ event_phrase log i
+  unfolding event_phrase
+  said first second e r f s o h = h ∙ rw (o, f, s) refl
+
+pub returns-then-log-i : goal.returns-then-log-i
+returns-then-log-i c = c.plain.ensures ∙ behind-it c.args.log.now c.args.i c.if-log-i.true
+
+pub returns : goal.returns
+returns c =
+    let a = c.args in
+    said a.log.now a.i c.byte_of-first.result c.byte_of-second.result c.of.result c.say.result
+    c.byte_of-first.ensures.0 c.byte_of-second.ensures.0 c.of.ensures c.say.ensures
