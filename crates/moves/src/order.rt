@@ -80,6 +80,7 @@ fn may_start(net: &[u8], shape: Net, state: &[u8], known: bool) -> bool
 }
 
 // Once a start has happened in the step, only firings of age 0 end.
+#[tactic(auto, unfolding(model::specs::Rules::can_end))]
 fn may_end(started: bool, age: Age) -> bool
     ensures { result ≡ can_end started age.0 }
 {
