@@ -15,7 +15,6 @@ use Rattle.model.proofs.Tab.{below-or-past}
 use Rattle.model.proofs.Tests.{eqb_tells, not-tells}
 use Rattle.model.proofs.Lowest.{lowest-is, lowest-once}
 use Rattle.balance.specs.declared.call.BalanceTold.{BalanceTold}
-use Rattle.balance.specs.declared.weigh.Weighing.{Weighing}
 use Rattle.balance.specs.declared.weigh.Weighing.TheVariants as comes-to
 use Rattle.balance.specs.Weights.{weight_in, weight_out, BalancedAt, Balanced, LowestUnbalanced, first_unbalanced, total}
 use Rattle.balance.specs.Told.{weight_at, balance_of, weighing, checked_weighing}

@@ -28,7 +28,7 @@ use Rattle.engine.specs.declared.answers.OwedTold.{OwedTold}
 use Rattle.engine.specs.declared.examine.Examined.{Examined}
 use Rattle.engine.specs.declared.examine.Examined.TheVariants as examined
 use Rattle.engine.specs.Examined.{if_good, examine_net, examine_state, examine_log, if_fit}
-use Rattle.engine.specs.Answers.{verdict, accepted, verdict_of, unfit, event_unfit, no_degree, no_report}
+use Rattle.engine.specs.Answers.{accepted, verdict_of, unfit, event_unfit, no_degree, no_report}
 use Rattle.engine.specs.Calls.{net_told, state_told, initial_told, initial_left, event_told, event_left, back_told, back_left}
 use Rattle.engine.specs.Calls.{degree_told, owed_told, run_told, run_left, walk_told, walk_left, step_told}
 use Rattle.engine.specs.Demands.{Passes, InitialGiven, ToldPasses, ToldFault}

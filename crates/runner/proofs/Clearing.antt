@@ -5,7 +5,6 @@ use mathlib.Core.Bool.{false}
 use Prim.Native.Nat.{ℕ, ◌+◌, ◌<◌, ◌≤◌}
 use native.Mathlib.Omega.{arith}
 use Rattle.model.specs.declared.event.Event.{Event}
-use Rattle.model.specs.declared.event.Event.TheVariants as event
 use Rattle.model.specs.Net.{Net, State, Lawful, count}
 use Rattle.model.specs.Moves.{Enabled, Starts, Ends, Moves}
 use Rattle.model.specs.Owed.{Lowest}

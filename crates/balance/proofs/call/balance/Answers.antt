@@ -5,7 +5,6 @@ use Rattle.forms.specs.Word.{Bytes}
 use Rattle.engine.proofs.Fits.{state-fits}
 use Rattle.balance.specs.Told.{balance_told}
 use Rattle.balance.proofs.Promised.{balance-promised}
-use borrow.Author.Rules.{rules}
 use Rattle.balance.proofs.call.balance.Goals as goal
 
 pub weigh-requires : goal.weigh-requires

@@ -1,14 +1,10 @@
 -- `weigh::arcs` meets its contract. The loop keeps what the arcs passed weigh.
-use mathlib.Core.Path.{◌≡◌, ap, ◌∙◌}
-use Prim.Native.Nat.{ℕ, ◌+◌, ◌-◌, ◌*◌, ◌≤◌}
-use native.Mathlib.Omega.{arith}
+use mathlib.Core.Path.{◌≡◌}
+use Prim.Native.Nat.{◌+◌, ◌-◌, ◌*◌, ◌≤◌}
 use Rattle.forms.specs.Word.{byte}
 use Rattle.balance.specs.Bounds.{arc_most}
 use Rattle.balance.specs.Weights.{weighed}
 use Rattle.balance.specs.Told.{weight_at}
-use Rattle.balance.proofs.Bounds.{word-by-byte}
-use Rattle.balance.proofs.Turns.{weighed-begin, weighed-turn}
-use borrow.Author.Rules.{rules}
 use Rattle.balance.proofs.weigh.arcs.Given as goal
 
 abbrev pub invariant-loop-p : goal.invariant-loop-p

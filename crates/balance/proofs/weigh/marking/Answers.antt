@@ -1,15 +1,12 @@
 -- `weigh::marking` meets its contract. The loop keeps what the places passed weigh.
-use mathlib.Core.Path.{◌≡◌, ap, ◌∙◌}
-use Prim.Native.Nat.{ℕ, ◌-◌, ◌*◌, ◌≤◌}
+use Prim.Native.Nat.{◌*◌, ◌≤◌}
 use native.Mathlib.Omega.{arith}
 use Rattle.forms.specs.Word.{word}
 use Rattle.forms.specs.Places.{mark_at}
 use Rattle.balance.specs.Bounds.{tokens_most}
-use Rattle.balance.specs.Weights.{weighed}
 use Rattle.balance.specs.Told.{weight_at}
 use Rattle.balance.proofs.Bounds.{word-by-word}
 use Rattle.balance.proofs.Turns.{weighed-begin, weighed-turn}
-use borrow.Author.Rules.{rules}
 use Rattle.balance.proofs.weigh.marking.Goals as goal
 
 pub loop-p-init : goal.loop-p-init

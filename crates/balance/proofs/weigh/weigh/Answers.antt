@@ -2,11 +2,9 @@
 use mathlib.Core.Path.{◌≡◌, sym, ap, ◌∙◌}
 use mathlib.Core.List.{List}
 use Prim.Native.Nat.{ℕ, ◌*◌}
-use native.Mathlib.Omega.{arith}
 use Rattle.model.specs.declared.net.Net.{Net as Shape}
 use Rattle.forms.specs.Stored.{net_of}
 use Rattle.forms.specs.Frame.{Framed}
-use Rattle.forms.proofs.States.{places-small}
 use Rattle.balance.proofs.Answers.{not-by, by_weights}
 use Rattle.balance.proofs.weigh.weigh.Goals as goal
 

@@ -1,12 +1,9 @@
 -- `weigh::words_sum` meets its contract. The loop keeps the sum of the words passed.
-use mathlib.Core.Path.{◌≡◌, refl, ap, ◌∙◌}
-use Prim.Native.Nat.{ℕ, ◌+◌, ◌-◌, ◌*◌, ◌≤◌}
-use native.Mathlib.Omega.{arith}
+use mathlib.Core.Path.{◌≡◌}
+use Prim.Native.Nat.{◌+◌, ◌-◌, ◌*◌, ◌≤◌}
 use Rattle.forms.specs.Word.{word}
 use Rattle.model.specs.Tab.{sum}
 use Rattle.balance.specs.Bounds.{word_most}
-use Rattle.balance.proofs.Turns.{sum-begin, sum-turn}
-use borrow.Author.Rules.{rules}
 use Rattle.balance.proofs.weigh.words_sum.Given as goal
 
 abbrev pub invariant-loop-k : goal.invariant-loop-k

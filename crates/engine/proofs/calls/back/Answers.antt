@@ -7,7 +7,6 @@ use Rattle.runs.proofs.Knowing.{known-first}
 use Rattle.engine.proofs.Fits.{state-fits}
 use Rattle.forms.specs.Word.{Bytes}
 use Rattle.engine.proofs.Promised.{back-promised}
-use borrow.Author.Rules.{rules}
 use Rattle.engine.proofs.calls.back.Goals as goal
 
 pub back-requires : goal.back-requires

@@ -3,7 +3,6 @@ use native.Mathlib.Omega.{arith}
 use Rattle.engine.specs.Calls.{net_told}
 use Rattle.forms.specs.Word.{Bytes}
 use Rattle.engine.proofs.Promised.{check-net-promised}
-use borrow.Author.Rules.{rules}
 use Rattle.engine.proofs.calls.check_net.Goals as goal
 
 pub returns : goal.returns

@@ -4,7 +4,6 @@ use native.Mathlib.Omega.{arith}
 use Rattle.engine.specs.Calls.{state_told}
 use Rattle.forms.specs.Word.{Bytes}
 use Rattle.engine.proofs.Promised.{check-state-promised}
-use borrow.Author.Rules.{rules}
 use Rattle.engine.proofs.calls.check_state.Goals as goal
 
 pub returns-in-Fit : goal.returns-in-Fit

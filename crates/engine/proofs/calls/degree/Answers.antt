@@ -11,7 +11,6 @@ use Rattle.engine.specs.Calls.{degree_told}
 use Rattle.engine.proofs.Fits.{state-fits}
 use Rattle.forms.specs.Word.{Bytes}
 use Rattle.engine.proofs.Promised.{degree-promised}
-use borrow.Author.Rules.{rules}
 use Rattle.engine.proofs.calls.degree.Goals as goal
 
 pub returns-then-shape-t : goal.returns-then-shape-t

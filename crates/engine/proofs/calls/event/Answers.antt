@@ -7,7 +7,6 @@ use Rattle.runs.proofs.Knowing.{known-first}
 use Rattle.engine.proofs.Fits.{state-fits}
 use Rattle.forms.specs.Word.{Bytes}
 use Rattle.engine.proofs.Promised.{event-promised}
-use borrow.Author.Rules.{rules}
 use Rattle.engine.proofs.calls.event.Goals as goal
 
 pub apply-requires : goal.apply-requires

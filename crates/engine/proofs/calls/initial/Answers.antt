@@ -5,7 +5,6 @@ use Rattle.engine.specs.Calls.{initial_told, initial_left}
 use Rattle.engine.proofs.Fits.{net-fits}
 use Rattle.forms.specs.Word.{Bytes}
 use Rattle.engine.proofs.Promised.{initial-promised}
-use borrow.Author.Rules.{rules}
 use Rattle.engine.proofs.calls.initial.Goals as goal
 
 pub initial-requires : goal.initial-requires

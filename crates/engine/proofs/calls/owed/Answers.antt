@@ -5,7 +5,6 @@ use Rattle.engine.specs.Calls.{owed_told}
 use Rattle.engine.proofs.Fits.{state-fits}
 use Rattle.forms.specs.Word.{Bytes}
 use Rattle.engine.proofs.Promised.{owed-promised}
-use borrow.Author.Rules.{rules}
 use Rattle.engine.proofs.calls.owed.Goals as goal
 
 pub report-requires : goal.report-requires

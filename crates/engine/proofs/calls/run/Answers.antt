@@ -8,7 +8,6 @@ use Rattle.engine.specs.Calls.{run_told, run_left}
 use Rattle.engine.proofs.Fits.{log-fits}
 use Rattle.forms.specs.Word.{Bytes}
 use Rattle.engine.proofs.Promised.{run-promised}
-use borrow.Author.Rules.{rules}
 use Rattle.engine.proofs.calls.run.Goals as goal
 
 pub slice_bounds-run-count : goal.slice_bounds-run-count

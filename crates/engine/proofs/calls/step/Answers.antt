@@ -5,7 +5,6 @@ use lib.ListN.{length}
 use native.Mathlib.Omega.{arith}
 use Rattle.engine.proofs.StepParts.{step-inside}
 use Rattle.engine.proofs.Promised.{part-promised}
-use borrow.Author.Rules.{rules}
 use Rattle.engine.proofs.calls.step.Goals as goal
 
 pub slice_bounds-result-end : goal.slice_bounds-result-end

@@ -11,7 +11,6 @@ use Rattle.logs.proofs.PairLaws.{rest}
 use Rattle.engine.specs.Calls.{step_told}
 use Rattle.forms.specs.Word.{Bytes}
 use Rattle.engine.proofs.Promised.{step-promised}
-use borrow.Author.Rules.{rules}
 use Rattle.engine.proofs.calls.step_told.Goals as goal
 
 pub returns-in_default : goal.returns-in_default

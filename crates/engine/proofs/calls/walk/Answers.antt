@@ -8,7 +8,6 @@ use Rattle.engine.specs.Calls.{walk_told, walk_left}
 use Rattle.engine.proofs.Fits.{log-fits}
 use Rattle.forms.specs.Word.{Bytes}
 use Rattle.engine.proofs.Promised.{walk-promised}
-use borrow.Author.Rules.{rules}
 use Rattle.engine.proofs.calls.walk.Goals as goal
 
 pub slice_bounds-walk-count : goal.slice_bounds-walk-count

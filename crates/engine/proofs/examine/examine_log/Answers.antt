@@ -2,7 +2,6 @@
 use mathlib.Core.Path.{sym, ◌∙◌}
 use Rattle.engine.specs.Examined.{examine_log}
 use Rattle.engine.proofs.Fits.{still-unfit, still-fit, now-unfit}
-use borrow.Author.Rules.{rules}
 use Rattle.engine.proofs.examine.examine_log.Goals as goal
 
 pub returns-in_default : goal.returns-in_default

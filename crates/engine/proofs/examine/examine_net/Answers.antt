@@ -2,7 +2,6 @@
 use mathlib.Core.Path.{sym, ◌∙◌}
 use Rattle.forms.proofs.Nets.{net-exact}
 use Rattle.engine.proofs.Fits.{net-fit, net-unfit}
-use borrow.Author.Rules.{rules}
 use Rattle.engine.proofs.examine.examine_net.Goals as goal
 
 pub shape_of-requires-in-Good : goal.shape_of-requires-in-Good

@@ -8,12 +8,11 @@ use Rattle.model.proofs.Alls.{passed, failed}
 use Rattle.forms.specs.Word.{Bytes, byte}
 use Rattle.forms.specs.Stored.{net_of}
 use Rattle.forms.proofs.States.{places_same}
-use Rattle.forms.proofs.Inside.{count-inside, row-limits, count-limits, outputs-inside}
+use Rattle.forms.proofs.Inside.{count-inside, outputs-inside}
 use Rattle.owed.proofs.ModelTests.{outputs-right}
 use Rattle.moves.proofs.Looked.{gave, gave-nothing}
 use Rattle.moves.proofs.Fired.{known-byte}
 use Rattle.moves.proofs.Ending.{end-unknown, end-untimely, end_none, end-full, end-done, young}
-use borrow.Author.Rules.{rules}
 use Rattle.moves.proofs.firing.end.Goals as goal
 
 pub returns-then-shape-t : goal.returns-then-shape-t

@@ -7,11 +7,10 @@ use Rattle.model.proofs.Tests.{held_tells}
 use Rattle.model.proofs.Alls.{passed, holds}
 use Rattle.forms.specs.Word.{Bytes, byte}
 use Rattle.forms.specs.Stored.{net_of, stored}
-use Rattle.forms.proofs.Inside.{count-inside, row-limits, count-limits, inputs-inside}
+use Rattle.forms.proofs.Inside.{count-inside, inputs-inside}
 use Rattle.moves.proofs.Looked.{took, took-nothing}
 use Rattle.moves.proofs.Fired.{known-byte}
 use Rattle.moves.proofs.Starting.{start-unknown, start-disabled, start-full, start-done, fresh, lacks-there, asks-short, tells-short}
-use borrow.Author.Rules.{rules}
 use Rattle.moves.proofs.firing.start.Goals as goal
 
 pub returns-then-shape-t : goal.returns-then-shape-t

@@ -6,7 +6,6 @@ use lib.Dec.{leb}
 use borrow.Author.Tests.{le-leb, lt-leb}
 use Rattle.model.specs.Rules.{is_timely}
 use Rattle.forms.specs.Stored.{net_of}
-use borrow.Author.Rules.{rules}
 use Rattle.moves.proofs.firing.timely.Goals as goal
 
 pub returns-then-age-sfd : goal.returns-then-age-sfd

@@ -11,13 +11,12 @@ use Rattle.model.proofs.Alls.{passed, failed}
 use Rattle.forms.specs.Word.{Bytes, byte}
 use Rattle.forms.specs.Stored.{net_of, stored}
 use Rattle.forms.proofs.States.{places_same}
-use Rattle.forms.proofs.Inside.{count-inside, row-limits, count-limits, outputs-inside}
+use Rattle.forms.proofs.Inside.{count-inside, outputs-inside}
 use Rattle.owed.proofs.ModelTests.{outputs-right}
 use Rattle.owed.specs.Marks.{short_place}
 use Rattle.moves.proofs.Looked.{short-some, short_none, took, took-nothing, covered-is}
 use Rattle.moves.proofs.Fired.{known-byte}
 use Rattle.moves.proofs.Ending.{unend-unknown, unend-untimely, unend-short, unend-full, unend-done, young}
-use borrow.Author.Rules.{rules}
 use Rattle.moves.proofs.firing.unend.Goals as goal
 
 pub returns-then-shape-t : goal.returns-then-shape-t

@@ -3,11 +3,10 @@ use mathlib.Core.Path.{◌∙◌}
 use Prim.Native.Nat.{◌<◌}
 use native.Mathlib.Omega.{arith}
 use Rattle.forms.specs.Word.{Bytes, byte}
-use Rattle.forms.proofs.Inside.{count-inside, row-limits, count-limits, inputs-inside}
+use Rattle.forms.proofs.Inside.{count-inside, inputs-inside}
 use Rattle.moves.proofs.Looked.{gave, gave-nothing}
 use Rattle.moves.proofs.Fired.{known-byte}
 use Rattle.moves.proofs.Starting.{unstart-unknown, unstart-none, unstart-no-room, unstart-done, fresh}
-use borrow.Author.Rules.{rules}
 use Rattle.moves.proofs.firing.unstart.Goals as goal
 
 pub returns-then-shape-t : goal.returns-then-shape-t

@@ -1,21 +1,17 @@
 -- `marking::give` meets its contract. The loop keeps that every place passed had room for its weight, and that the weights of these are given.
 use mathlib.Core.Path.{◌≡◌, refl}
-use mathlib.Core.Bool.{Bool, true, false, not}
-use Prim.Native.Nat.{ℕ, ◌+◌, ◌-◌, ◌<◌, ◌≤◌}
+use mathlib.Core.Bool.{Bool, true, false}
+use Prim.Native.Nat.{ℕ, ◌+◌, ◌<◌, ◌≤◌}
 use native.Mathlib.Omega.{arith}
-use lib.ListN.{length}
-use Rattle.model.specs.Tab.{all}
 use Rattle.model.specs.Limits.{is_held}
-use Rattle.model.proofs.Tests.{held_tells}
-use Rattle.model.proofs.Alls.{all-begin, passed, failed, holds}
-use Rattle.forms.specs.Word.{Bytes, byte, word, put_words}
+use Rattle.model.proofs.Alls.{all-begin, passed, failed}
+use Rattle.forms.specs.Word.{Bytes, byte, word}
 use Rattle.forms.specs.Places.{mark_at}
 use Rattle.forms.proofs.Runs.{put-begin}
 use Rattle.owed.proofs.Passing.{pass_on, passed-zero}
 use Rattle.moves.specs.Marking.{after_giving}
 use Rattle.moves.proofs.Marked.{mark-read}
 use Rattle.moves.proofs.Weighing.{give-on, give-turn, give-word, give-stop, give-end}
-use borrow.Author.Rules.{rules}
 use Rattle.moves.proofs.marking.give.Goals as goal
 
 pub loop-p-init : goal.loop-p-init

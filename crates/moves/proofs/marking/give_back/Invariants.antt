@@ -1,14 +1,10 @@
 -- `marking::give_back` meets its contract. The loop keeps that the markings passed are written.
-use mathlib.Core.Path.{◌≡◌, refl}
-use Prim.Native.Nat.{◌+◌, ◌≤◌, ◌-◌}
-use native.Mathlib.Omega.{arith}
+use mathlib.Core.Path.{◌≡◌}
+use Prim.Native.Nat.{◌≤◌, ◌-◌}
 use lib.ListN.{length}
-use Rattle.forms.specs.Word.{word, put_words}
+use Rattle.forms.specs.Word.{put_words}
 use Rattle.forms.specs.Places.{mark_at}
-use Rattle.forms.proofs.Runs.{put-begin, put-turn, put-end}
 use Rattle.moves.specs.Marking.{after_giving}
-use Rattle.moves.proofs.Marked.{mark-read}
-use borrow.Author.Rules.{rules}
 use Rattle.moves.proofs.marking.give_back.Given as goal
 
 abbrev pub invariant-loop-p : goal.invariant-loop-p

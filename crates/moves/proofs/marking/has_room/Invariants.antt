@@ -1,14 +1,10 @@
 -- `marking::has_room` meets its contract. The loop keeps that every place passed has room for its weight.
-use mathlib.Core.Path.{◌≡◌, sym, ap, ◌∙◌}
+use mathlib.Core.Path.{◌≡◌}
 use mathlib.Core.Bool.{true}
-use Prim.Native.Nat.{◌+◌, ◌-◌, ◌≤◌}
-use native.Mathlib.Omega.{arith}
+use Prim.Native.Nat.{◌-◌, ◌≤◌}
 use Rattle.model.specs.Tab.{all}
 use Rattle.model.specs.Limits.{is_held}
-use Rattle.model.proofs.Alls.{all-begin, all-turn, all-stop, all_end, passed, failed}
-use Rattle.forms.specs.Word.{word}
-use Rattle.moves.specs.Marking.{after_giving, is_roomy}
-use borrow.Author.Rules.{rules}
+use Rattle.moves.specs.Marking.{after_giving}
 use Rattle.moves.proofs.marking.has_room.Given as goal
 
 abbrev pub invariant-loop-p : goal.invariant-loop-p

@@ -1,12 +1,10 @@
 -- `marking::take` meets its contract. The loop keeps that every place passed had its weight, and that the weights of these are taken.
 use mathlib.Core.Path.{◌≡◌, refl}
-use mathlib.Core.Bool.{true, not}
+use mathlib.Core.Bool.{not}
 use Prim.Native.Nat.{ℕ, ◌+◌, ◌-◌, ◌<◌, ◌≤◌}
 use native.Mathlib.Omega.{arith}
-use lib.ListN.{length}
-use Rattle.model.specs.Tab.{all}
 use Rattle.model.proofs.Alls.{all-begin}
-use Rattle.forms.specs.Word.{Bytes, byte, word, put_words}
+use Rattle.forms.specs.Word.{Bytes, byte, word}
 use Rattle.forms.specs.Places.{mark_at}
 use Rattle.forms.proofs.WordLaws.{word_fits}
 use Rattle.forms.proofs.Runs.{put-begin}
@@ -15,7 +13,6 @@ use Rattle.owed.proofs.Passing.{pass_on, passed-zero}
 use Rattle.moves.specs.Marking.{after_taking}
 use Rattle.moves.proofs.Marked.{mark-read}
 use Rattle.moves.proofs.Weighing.{take_on, take-turn, take-word, take-had, take-stop, take-end}
-use borrow.Author.Rules.{rules}
 use Rattle.moves.proofs.marking.take.Goals as goal
 
 pub loop-p-init : goal.loop-p-init

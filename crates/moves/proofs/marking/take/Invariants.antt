@@ -1,21 +1,13 @@
 -- `marking::take` meets its contract. The loop keeps that every place passed had its weight, and that the weights of these are taken.
-use mathlib.Core.Path.{◌≡◌, refl}
+use mathlib.Core.Path.{◌≡◌}
 use mathlib.Core.Bool.{true, not}
-use Prim.Native.Nat.{ℕ, ◌+◌, ◌-◌, ◌<◌, ◌≤◌}
-use native.Mathlib.Omega.{arith}
+use Prim.Native.Nat.{◌-◌, ◌≤◌}
 use lib.ListN.{length}
 use Rattle.model.specs.Tab.{all}
-use Rattle.model.proofs.Alls.{all-begin}
-use Rattle.forms.specs.Word.{Bytes, byte, word, put_words}
+use Rattle.forms.specs.Word.{put_words}
 use Rattle.forms.specs.Places.{mark_at}
-use Rattle.forms.proofs.WordLaws.{word_fits}
-use Rattle.forms.proofs.Runs.{put-begin}
 use Rattle.owed.specs.Marks.{is_short}
-use Rattle.owed.proofs.Passing.{pass_on, passed-zero}
 use Rattle.moves.specs.Marking.{after_taking}
-use Rattle.moves.proofs.Marked.{mark-read}
-use Rattle.moves.proofs.Weighing.{take_on, take-turn, take-word, take-had, take-stop, take-end}
-use borrow.Author.Rules.{rules}
 use Rattle.moves.proofs.marking.take.Given as goal
 
 abbrev pub invariant-loop-p : goal.invariant-loop-p

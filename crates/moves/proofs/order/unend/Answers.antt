@@ -2,7 +2,6 @@
 use Rattle.model.proofs.Alls.{passed, failed}
 use Rattle.forms.specs.Stored.{net_of, stored}
 use Rattle.moves.proofs.Ordering.{unend-any, behind-start, unend-too-late}
-use borrow.Author.Rules.{rules}
 use Rattle.moves.proofs.order.unend.Goals as goal
 
 pub too_late-requires : goal.too_late-requires

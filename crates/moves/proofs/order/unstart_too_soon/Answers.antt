@@ -2,7 +2,7 @@
 use Prim.Native.Nat.{◌<◌}
 use native.Mathlib.Omega.{arith}
 use Rattle.forms.specs.Word.{byte}
-use Rattle.forms.proofs.Inside.{row-limits, inputs-inside}
+use Rattle.forms.proofs.Inside.{inputs-inside}
 use Rattle.moves.proofs.Fired.{known-byte}
 use Rattle.moves.proofs.Starting.{unstart-unknown, unstart-none, unstart-no-room, unstart-too-soon, fresh}
 use Rattle.moves.proofs.order.unstart_too_soon.Goals as goal

@@ -1,11 +1,9 @@
 -- `shift::shift_down` meets its contract. The loop goes up, and keeps that the first n bytes have come down (`Lowered`).
-use mathlib.Core.Path.{◌≡◌, refl, ap, ◌∙◌}
-use Prim.Native.Nat.{ℕ, ◌≤◌, ◌+◌, ◌*◌, ◌-◌}
+use mathlib.Core.Path.{◌≡◌, ap, ◌∙◌}
+use Prim.Native.Nat.{ℕ, ◌+◌, ◌*◌, ◌-◌}
 use native.Mathlib.Omega.{arith}
-use lib.ListN.{length}
 use Rattle.forms.specs.Word.{set_word}
-use Rattle.moves.proofs.Shifting.{Lowered, lowered_none, lowered-turn, lowered-all}
-use borrow.Author.Rules.{rules}
+use Rattle.moves.proofs.Shifting.{lowered-all}
 use Rattle.moves.proofs.shift.shift_down.Goals as goal
 
 pub returns : goal.returns

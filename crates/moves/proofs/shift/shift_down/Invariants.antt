@@ -1,11 +1,8 @@
 -- `shift::shift_down` meets its contract. The loop goes up, and keeps that the first n bytes have come down (`Lowered`).
-use mathlib.Core.Path.{◌≡◌, refl, ap, ◌∙◌}
-use Prim.Native.Nat.{ℕ, ◌≤◌, ◌+◌, ◌*◌, ◌-◌}
-use native.Mathlib.Omega.{arith}
+use mathlib.Core.Path.{◌≡◌}
+use Prim.Native.Nat.{◌≤◌, ◌*◌, ◌-◌}
 use lib.ListN.{length}
-use Rattle.forms.specs.Word.{set_word}
-use Rattle.moves.proofs.Shifting.{Lowered, lowered_none, lowered-turn, lowered-all}
-use borrow.Author.Rules.{rules}
+use Rattle.moves.proofs.Shifting.{Lowered}
 use Rattle.moves.proofs.shift.shift_down.Given as goal
 
 abbrev pub invariant-loop-n : goal.invariant-loop-n

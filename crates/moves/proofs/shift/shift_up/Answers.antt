@@ -1,10 +1,7 @@
 -- `shift::shift_up` meets its contract. The loop goes down, and keeps that the bytes from place n on have gone up (`Lifted`).
-use mathlib.Core.Path.{◌≡◌, refl, ◌∙◌}
-use Prim.Native.Nat.{◌≤◌, ◌*◌, ◌-◌}
+use mathlib.Core.Path.{◌∙◌}
 use native.Mathlib.Omega.{arith}
-use lib.ListN.{length}
-use Rattle.moves.proofs.Shifting.{Lifted, lifted-none, lifted-turn, lifted-all}
-use borrow.Author.Rules.{rules}
+use Rattle.moves.proofs.Shifting.{lifted-all}
 use Rattle.moves.proofs.shift.shift_up.Goals as goal
 
 pub returns : goal.returns

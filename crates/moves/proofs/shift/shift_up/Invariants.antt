@@ -1,10 +1,8 @@
 -- `shift::shift_up` meets its contract. The loop goes down, and keeps that the bytes from place n on have gone up (`Lifted`).
-use mathlib.Core.Path.{◌≡◌, refl, ◌∙◌}
+use mathlib.Core.Path.{◌≡◌}
 use Prim.Native.Nat.{◌≤◌, ◌*◌, ◌-◌}
-use native.Mathlib.Omega.{arith}
 use lib.ListN.{length}
-use Rattle.moves.proofs.Shifting.{Lifted, lifted-none, lifted-turn, lifted-all}
-use borrow.Author.Rules.{rules}
+use Rattle.moves.proofs.Shifting.{Lifted}
 use Rattle.moves.proofs.shift.shift_up.Given as goal
 
 abbrev pub invariant-loop-n : goal.invariant-loop-n

@@ -1,8 +1,6 @@
 -- `tick::move_back` meets its contract: the clock's block, moved by one place, is what the rules write.
 use native.Mathlib.Omega.{arith}
-use Rattle.forms.proofs.States.{places-small, transitions-small, width_small}
 use Rattle.moves.proofs.Ticking.{block-fits, unaged}
-use borrow.Author.Rules.{rules}
 use Rattle.moves.proofs.tick.move_back.Goals as goal
 
 pub shift_down-requires : goal.shift_down-requires

@@ -1,8 +1,6 @@
 -- `tick::move_on` meets its contract: the clock's block, moved by one place, is what the rules write.
 use native.Mathlib.Omega.{arith}
-use Rattle.forms.proofs.States.{places-small, transitions-small, width_small}
 use Rattle.moves.proofs.Ticking.{block-fits, aged}
-use borrow.Author.Rules.{rules}
 use Rattle.moves.proofs.tick.move_on.Goals as goal
 
 pub shift_up-requires : goal.shift_up-requires

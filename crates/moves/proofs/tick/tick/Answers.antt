@@ -2,7 +2,6 @@
 use mathlib.Core.Path.{sym, ◌∙◌}
 use Rattle.model.proofs.Alls.{passed, failed}
 use Rattle.moves.proofs.Ticking.{tick-start-owed, tick-end-owed, tick-rest, tick-done}
-use borrow.Author.Rules.{rules}
 use Rattle.moves.proofs.tick.tick.Goals as goal
 
 pub returns-then-not-no_start_owed : goal.returns-then-not-no_start_owed

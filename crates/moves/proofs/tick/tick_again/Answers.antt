@@ -1,7 +1,6 @@
 -- `tick::tick_again` meets its contract: what it does not ask is known.
 use Rattle.model.proofs.Alls.{passed, failed}
 use Rattle.moves.proofs.Ticking.{tick-end-owed, tick-done}
-use borrow.Author.Rules.{rules}
 use Rattle.moves.proofs.tick.tick_again.Goals as goal
 
 pub returns-then-not-no_end_owed : goal.returns-then-not-no_end_owed

@@ -2,7 +2,6 @@
 use mathlib.Core.Path.{sym, ◌∙◌}
 use Rattle.model.proofs.Alls.{passed, failed}
 use Rattle.moves.proofs.Ticking.{untick-fresh, untick-start-owed, untick-rest, untick-done}
-use borrow.Author.Rules.{rules}
 use Rattle.moves.proofs.tick.untick.Goals as goal
 
 pub returns-then-not-none_fresh : goal.returns-then-not-none_fresh

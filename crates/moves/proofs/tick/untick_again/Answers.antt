@@ -1,7 +1,6 @@
 -- `tick::untick_again` meets its contract: what it does not ask is known.
 use Rattle.model.proofs.Alls.{passed, failed}
 use Rattle.moves.proofs.Ticking.{untick-fresh, untick-done}
-use borrow.Author.Rules.{rules}
 use Rattle.moves.proofs.tick.untick_again.Goals as goal
 
 pub returns-then-not-none_fresh : goal.returns-then-not-none_fresh

@@ -1,7 +1,6 @@
 -- `counts::count` meets its contract: the word at the place of the count.
 use mathlib.Core.Path.{◌∙◌}
-use Rattle.forms.proofs.Inside.{count-limits, count-inside, count-stands}
-use borrow.Author.Rules.{rules}
+use Rattle.forms.proofs.Inside.{count-inside, count-stands}
 use Rattle.owed.proofs.counts.count.Goals as goal
 
 pub read16-requires : goal.read16-requires

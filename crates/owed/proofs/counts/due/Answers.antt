@@ -1,11 +1,6 @@
 -- `counts::due` meets its contract: the count at the lfd.
-use mathlib.Core.Path.{ap, ◌∙◌}
-use Prim.Native.Nat.{ℕ}
 use native.Mathlib.Omega.{arith}
-use Rattle.model.specs.Net.{count as count_of}
-use Rattle.forms.specs.Stored.{stored}
 use Rattle.forms.proofs.Inside.{lfd-young}
-use borrow.Author.Rules.{rules}
 use Rattle.owed.proofs.counts.due.Goals as goal
 
 pub count-requires : goal.count-requires

@@ -1,16 +1,9 @@
 -- `counts::no_old_end_owed` meets its contract. The loop keeps that no transition passed owes such an end.
-use mathlib.Core.Path.{◌≡◌, sym, ◌∙◌}
-use mathlib.Core.Bool.{Bool, true}
-use mathlib.Core.List.{List}
-use Prim.Native.Nat.{ℕ, ◌-◌, ◌≤◌}
+use mathlib.Core.Path.{sym, ◌∙◌}
 use native.Mathlib.Omega.{arith}
-use Rattle.model.specs.Tab.{all}
-use Rattle.model.specs.Rules.{owes_no_old_end}
 use Rattle.model.proofs.Alls.{all-begin, all-turn, all-stop, all_end, passed, failed}
-use Rattle.forms.specs.Stored.{net_of, stored}
 use Rattle.forms.proofs.States.{transitions-same}
 use Rattle.owed.proofs.ModelTests.{no-old-end-is}
-use borrow.Author.Rules.{rules}
 use Rattle.owed.proofs.counts.no_old_end_owed.Invariants.{clear}
 use Rattle.owed.proofs.counts.no_old_end_owed.Goals as goal
 

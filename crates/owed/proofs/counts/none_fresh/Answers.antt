@@ -1,19 +1,12 @@
 -- `counts::none_fresh` meets its contract. The loop keeps that no transition passed has such a count.
-use mathlib.Core.Path.{◌≡◌, sym, ◌∙◌}
-use mathlib.Core.Bool.{Bool, true}
-use mathlib.Core.List.{List}
-use Prim.Native.Nat.{ℕ, ◌-◌, ◌≤◌}
+use mathlib.Core.Path.{sym, ◌∙◌}
 use native.Mathlib.Omega.{arith}
 use borrow.Author.Tests.{eq-eqb, ne_eqb}
-use lib.Dec.{eqb}
-use Rattle.model.specs.Tab.{all}
-use Rattle.model.specs.Net.{count as count_of}
 use Rattle.model.proofs.Alls.{all-begin, all-turn, all-stop, all_end}
-use Rattle.forms.specs.Stored.{net_of, stored}
+use Rattle.forms.specs.Stored.{net_of}
 use Rattle.forms.proofs.States.{transitions-same}
 use Rattle.owed.proofs.ModelTests.{none-fresh-is}
 use Rattle.model.proofs.Shape.{width-pos}
-use borrow.Author.Rules.{rules}
 use Rattle.owed.proofs.counts.none_fresh.Invariants.{empty}
 use Rattle.owed.proofs.counts.none_fresh.Goals as goal
 

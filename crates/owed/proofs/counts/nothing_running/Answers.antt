@@ -1,7 +1,6 @@
 -- `counts::nothing_running` meets its contract: the clock is one block of words.
 use mathlib.Core.Path.{◌∙◌}
 use native.Mathlib.Omega.{arith}
-use Rattle.forms.proofs.States.{places-small, transitions-small, width_small}
 use Rattle.forms.proofs.Inside.{clock-inside}
 use Rattle.owed.proofs.ModelTests.{nothing-running-is}
 use Rattle.owed.proofs.counts.nothing_running.Goals as goal

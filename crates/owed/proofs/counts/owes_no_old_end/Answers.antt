@@ -9,7 +9,6 @@ use Rattle.model.specs.Tab.{implies}
 use Rattle.model.specs.Net.{Net, State, count}
 use Rattle.model.specs.Rules.{owes_no_old_end}
 use Rattle.forms.specs.Stored.{net_of, stored}
-use borrow.Author.Rules.{rules}
 use Rattle.owed.proofs.counts.owes_no_old_end.Goals as goal
 
 module _ (N : Net) (S : State) (t : ℕ) where

@@ -1,7 +1,7 @@
 -- `degree::degree` meets its contract: the least over the input weights of the transition.
 use mathlib.Core.Path.{◌∙◌}
 use Rattle.forms.proofs.States.{places_same}
-use Rattle.forms.proofs.Inside.{row-limits, inputs-inside}
+use Rattle.forms.proofs.Inside.{inputs-inside}
 use Rattle.owed.proofs.ModelTests.{degree_is, inputs-right}
 use Rattle.owed.proofs.degree.degree.Goals as goal
 

@@ -1,16 +1,10 @@
 -- `degree::least_times` meets its contract. The loop keeps that `fewest` is the least over the places passed.
-use mathlib.Core.Path.{◌≡◌, refl, ap, ◌∙◌}
-use mathlib.Core.Logic.{⊎_elim}
-use mathlib.Core.List.{List}
-use Prim.Native.Nat.{ℕ, ◌+◌, ◌-◌, ◌≤◌, min}
+use mathlib.Core.Path.{◌≡◌, refl, ◌∙◌}
+use Prim.Native.Nat.{min}
 use native.Mathlib.Omega.{arith}
 use Rattle.model.specs.Tab.{least}
 use Rattle.model.specs.Limits.{token_limit}
-use Rattle.model.specs.Rules.{times as times_of}
-use Rattle.forms.specs.Word.{byte, word}
-use Rattle.forms.specs.Places.{mark_at}
 use Rattle.owed.proofs.ModelTests.{least-turn}
-use borrow.Author.Rules.{rules}
 use Rattle.owed.proofs.degree.least_times.Invariants.{share}
 use Rattle.owed.proofs.degree.least_times.Goals as goal
 use Rattle.owed.proofs.degree.least_times.Goals.{then-here-fewest, else-here-fewest}

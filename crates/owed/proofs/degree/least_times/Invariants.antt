@@ -1,16 +1,12 @@
 -- `degree::least_times` meets its contract. The loop keeps that `fewest` is the least over the places passed.
-use mathlib.Core.Path.{◌≡◌, refl, ap, ◌∙◌}
-use mathlib.Core.Logic.{⊎_elim}
+use mathlib.Core.Path.{◌≡◌}
 use mathlib.Core.List.{List}
-use Prim.Native.Nat.{ℕ, ◌+◌, ◌-◌, ◌≤◌, min}
-use native.Mathlib.Omega.{arith}
+use Prim.Native.Nat.{ℕ, ◌+◌, ◌-◌, ◌≤◌}
 use Rattle.model.specs.Tab.{least}
 use Rattle.model.specs.Limits.{token_limit}
 use Rattle.model.specs.Rules.{times as times_of}
 use Rattle.forms.specs.Word.{byte, word}
 use Rattle.forms.specs.Places.{mark_at}
-use Rattle.owed.proofs.ModelTests.{least-turn}
-use borrow.Author.Rules.{rules}
 use Rattle.owed.proofs.degree.least_times.Given as goal
 
 -- how many times the weight of a place goes into its marking

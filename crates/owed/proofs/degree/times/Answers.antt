@@ -4,7 +4,6 @@ use Prim.Native.Nat.{ℕ, zero, suc, ◌/◌}
 use native.Mathlib.Omega.{arith}
 use Rattle.model.specs.Limits.{token_limit}
 use Rattle.model.specs.Rules.{times as times_of}
-use borrow.Author.Rules.{rules}
 use Rattle.owed.proofs.degree.times.Goals as goal
 
 none : (w m : ℕ) → w ≡ 0 → token_limit ≡ times_of w m

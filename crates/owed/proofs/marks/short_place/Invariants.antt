@@ -1,17 +1,9 @@
 -- `marks::short_place` meets its contract. The loop keeps that no place passed is short; one whose weight is 0 is not.
-use mathlib.Core.Path.{◌≡◌, ap, ◌∙◌}
+use mathlib.Core.Path.{◌≡◌}
 use mathlib.Core.Bool.{true, not}
-use Prim.Native.Nat.{ℕ, ◌+◌, ◌-◌, ◌<◌, ◌≤◌}
-use native.Mathlib.Omega.{arith}
-use borrow.Author.Tests.{lt-ltb, le-ltb}
+use Prim.Native.Nat.{◌-◌, ◌≤◌}
 use Rattle.model.specs.Tab.{all}
-use Rattle.model.proofs.Alls.{all-begin, all-turn}
-use Rattle.forms.specs.Word.{byte, word}
-use Rattle.forms.specs.Places.{mark_at}
-use Rattle.owed.specs.Marks.{is_short, short_place}
-use Rattle.owed.proofs.ModelTests.{lowest-found, lowest_end}
-use Rattle.owed.proofs.Passing.{pass_on, passed-zero, all-on}
-use borrow.Author.Rules.{rules}
+use Rattle.owed.specs.Marks.{is_short}
 use Rattle.owed.proofs.marks.short_place.Given as goal
 
 abbrev pub invariant-loop-p : goal.invariant-loop-p

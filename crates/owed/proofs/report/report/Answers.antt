@@ -6,7 +6,6 @@ use Rattle.model.specs.Owed.{does_owe_start, does_owe_end, owed}
 use Rattle.forms.specs.Stored.{net_of, stored}
 use Rattle.forms.proofs.States.{transitions-small}
 use Rattle.owed.proofs.ModelTests.{set_is}
-use borrow.Author.Rules.{rules}
 use Rattle.owed.proofs.report.report.Goals as goal
 
 pub returns : goal.returns

@@ -2,7 +2,6 @@
 use mathlib.Core.Path.{sym, ◌∙◌}
 use Rattle.forms.specs.Stored.{net_of, stored}
 use Rattle.owed.proofs.ModelTests.{stands-start, stands-end, stands-rest, stands-free}
-use borrow.Author.Rules.{rules}
 use Rattle.owed.proofs.report.standing.Goals as goal
 
 pub returns-then-starts-ne0 : goal.returns-then-starts-ne0

@@ -1,19 +1,12 @@
 -- `sets::ends_owed` meets its contract. The loop keeps that the word is that of the transitions passed.
-use mathlib.Core.Path.{◌≡◌, ap, ◌∙◌}
-use mathlib.Core.Bool.{Bool}
-use mathlib.Core.List.{List}
-use mathlib.Core.Logic.{⊎_elim}
-use Prim.Native.Nat.{ℕ, ◌-◌, ◌<◌, ◌≤◌}
+use mathlib.Core.Path.{◌≡◌, ◌∙◌}
+use Prim.Native.Nat.{ℕ, ◌<◌, ◌≤◌}
 use native.Mathlib.Omega.{arith}
 use borrow.Author.Tests.{le-leb, lt-leb}
-use Rattle.model.specs.Owed.{does_owe_end}
 use Rattle.forms.specs.Word.{byte}
-use Rattle.forms.specs.Stored.{net_of, stored}
-use Rattle.forms.proofs.States.{transitions-small, transitions-same, transitions-model}
-use Rattle.owed.specs.Bits.{word_of}
+use Rattle.forms.proofs.States.{transitions-small, transitions-same}
 use Rattle.owed.proofs.OwedWords.{word-begin, word_set, word-skip}
 use Rattle.owed.proofs.ModelTests.{end-bit}
-use borrow.Author.Rules.{rules}
 use Rattle.owed.proofs.sets.ends_owed.Invariants.{owes}
 use Rattle.owed.proofs.sets.ends_owed.Goals as goal
 use Rattle.owed.proofs.sets.ends_owed.Goals.{then-due-ne0, else-due-ne0}

@@ -1,18 +1,11 @@
 -- `sets::starts_owed` meets its contract. The loop keeps that the word is that of the transitions passed.
-use mathlib.Core.Path.{◌≡◌, sym, ap, ◌∙◌}
-use mathlib.Core.Bool.{Bool}
-use mathlib.Core.List.{List}
-use mathlib.Core.Logic.{⊎_elim}
-use Prim.Native.Nat.{ℕ, ◌-◌, ◌<◌, ◌≤◌}
+use mathlib.Core.Path.{sym, ◌∙◌}
+use Prim.Native.Nat.{◌<◌}
 use native.Mathlib.Omega.{arith}
-use Rattle.model.specs.Owed.{does_owe_start}
 use Rattle.forms.specs.Word.{byte}
-use Rattle.forms.specs.Stored.{net_of, stored}
-use Rattle.forms.proofs.States.{transitions-small, transitions-same, transitions-model}
-use Rattle.owed.specs.Bits.{word_of}
+use Rattle.forms.proofs.States.{transitions-small, transitions-same}
 use Rattle.owed.proofs.OwedWords.{word-begin, word_set, word-skip}
 use Rattle.owed.proofs.ModelTests.{start-bit}
-use borrow.Author.Rules.{rules}
 use Rattle.owed.proofs.sets.starts_owed.Invariants.{owes}
 use Rattle.owed.proofs.sets.starts_owed.Goals as goal
 use Rattle.owed.proofs.sets.starts_owed.Goals.{then-enabled, else-enabled}

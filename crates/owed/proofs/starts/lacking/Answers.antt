@@ -1,7 +1,7 @@
 -- `starts::lacking` meets its contract: the weights looked at are the transition's.
 use mathlib.Core.Path.{◌∙◌}
 use Rattle.forms.proofs.States.{places_same}
-use Rattle.forms.proofs.Inside.{row-limits, inputs-inside}
+use Rattle.forms.proofs.Inside.{inputs-inside}
 use Rattle.owed.proofs.ModelTests.{lacking-is, inputs-right}
 use Rattle.owed.proofs.starts.lacking.Goals as goal
 

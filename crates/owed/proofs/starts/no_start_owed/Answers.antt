@@ -1,16 +1,9 @@
 -- `starts::no_start_owed` meets its contract. The loop keeps that no transition passed is enabled.
-use mathlib.Core.Path.{◌≡◌, sym, ◌∙◌}
-use mathlib.Core.Bool.{Bool, true, not}
-use mathlib.Core.List.{List}
-use Prim.Native.Nat.{ℕ, ◌-◌, ◌≤◌}
+use mathlib.Core.Path.{sym, ◌∙◌}
 use native.Mathlib.Omega.{arith}
-use Rattle.model.specs.Tab.{all}
-use Rattle.model.specs.Rules.{is_enabled}
 use Rattle.model.proofs.Alls.{all-begin, all-turn, all-stop, all_end}
-use Rattle.forms.specs.Stored.{net_of, stored}
 use Rattle.forms.proofs.States.{transitions-same}
 use Rattle.owed.proofs.ModelTests.{no-start-is}
-use borrow.Author.Rules.{rules}
 use Rattle.owed.proofs.starts.no_start_owed.Invariants.{idle}
 use Rattle.owed.proofs.starts.no_start_owed.Goals as goal
 

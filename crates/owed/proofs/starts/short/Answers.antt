@@ -8,7 +8,7 @@ use Rattle.forms.specs.Word.{word}
 use Rattle.forms.specs.Places.{mark_at}
 use Rattle.forms.specs.Stored.{net_of, stored}
 use Rattle.forms.proofs.States.{places_same}
-use Rattle.forms.proofs.Inside.{row-limits, inputs-inside}
+use Rattle.forms.proofs.Inside.{inputs-inside}
 use Rattle.owed.proofs.ModelTests.{short_is, inputs-right}
 use borrow.Author.Rules.{rules}
 use Rattle.owed.proofs.starts.short.Goals as goal

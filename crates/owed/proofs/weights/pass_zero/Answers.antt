@@ -2,7 +2,6 @@
 use mathlib.Core.Path.{sym, ◌∙◌}
 use native.Mathlib.Omega.{arith}
 use Rattle.owed.proofs.Passing.{pass-last, pass-one, pass-eight}
-use borrow.Author.Rules.{rules}
 use Rattle.owed.proofs.weights.pass_zero.Goals as goal
 
 pub returns-then-places-lt8 : goal.returns-then-places-lt8

@@ -2,7 +2,6 @@
 use native.Mathlib.Omega.{arith}
 use Rattle.forms.specs.Places.{row_at}
 use Rattle.replay.proofs.Parts.{no_field, too_long, cut_short, arrived}
-use borrow.Author.Rules.{rules}
 use Rattle.replay.proofs.input.net_length.Goals as goal
 
 pub returns-then-input-lt5 : goal.returns-then-input-lt5

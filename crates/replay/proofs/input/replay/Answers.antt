@@ -1,8 +1,5 @@
 -- `input::replay` meets its contract: the initial state, and then the log's run.
-use mathlib.Core.Path.{sym}
-use lib.Seq.{length-take-le}
 use Rattle.replay.proofs.Parts.{not-begun, begun}
-use borrow.Author.Rules.{rules}
 use Rattle.replay.proofs.input.replay.Goals as goal
 
 pub returns-then-begun-ne0 : goal.returns-then-begun-ne0

@@ -2,7 +2,6 @@
 use mathlib.Core.Path.{ap}
 use Rattle.engine.specs.declared.answers.OwedTold.{OwedTold}
 use Rattle.replay.proofs.Parts.{stands-early, stands-late}
-use borrow.Author.Rules.{rules}
 use Rattle.replay.proofs.input.standing.Goals as goal
 
 pub returns-then-is_early : goal.returns-then-is_early

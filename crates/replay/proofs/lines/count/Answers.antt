@@ -1,11 +1,5 @@
 -- `lines::count` meets its contract: the count stands within the state.
-use mathlib.Core.Path.{ap}
-use native.Mathlib.Omega.{arith}
-use Rattle.model.specs.declared.age.Column.{Column}
-use Rattle.replay.proofs.Cells.{wide, some-row, cell-inside, counted}
-use Prim.Native.Nat.{◌/◌, ◌%◌, ◌<◌}
-use native.Mathlib.Nat.{mod-lt}
-use borrow.Author.Rules.{rules}
+use Rattle.replay.proofs.Cells.{cell-inside, counted}
 use Rattle.replay.proofs.lines.count.Goals as goal
 
 pub read16-requires : goal.read16-requires

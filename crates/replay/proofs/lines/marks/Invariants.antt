@@ -1,17 +1,13 @@
 -- `lines::marks` meets its contract. The loop keeps that what is put from here on completes the fields.
-use mathlib.Core.Path.{◌≡◌, refl, ap, ◌∙◌}
+use mathlib.Core.Path.{◌≡◌}
 use mathlib.Core.List.{List}
 use Prim.Native.Nat.{ℕ, ◌+◌, ◌*◌, ◌-◌, ◌≤◌}
-use native.Mathlib.Omega.{arith}
 use lib.ListN.{length, drop}
 use Rattle.model.specs.Tab.{tab}
 use Rattle.forms.specs.Word.{word}
 use Rattle.forms.specs.Places.{mark_at}
 use Rattle.text.specs.Lines.{field_most, Fields}
-use Rattle.text.proofs.Puts.{line_of}
-use Rattle.replay.specs.Lines.{marks_name, marks_fields, marks_most}
-use Rattle.replay.proofs.Marks.{marks-turn, marks-end, mark-inside}
-use borrow.Author.Rules.{rules}
+use Rattle.replay.specs.Lines.{marks_most}
 use Rattle.replay.proofs.lines.marks.Given as goal
 
 abbrev pub invariant-loop-p : goal.invariant-loop-p

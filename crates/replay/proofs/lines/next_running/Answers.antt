@@ -1,11 +1,6 @@
 -- `lines::next_running` meets its contract. The loop keeps that no cell passed is sought.
-use mathlib.Core.Path.{◌≡◌}
-use mathlib.Core.Bool.{true, not}
-use Prim.Native.Nat.{◌-◌, ◌≤◌}
 use native.Mathlib.Omega.{arith}
-use Rattle.model.specs.Tab.{all}
-use Rattle.replay.proofs.Cells.{reads-shown, sought, none_before, not-running, found, none_left}
-use borrow.Author.Rules.{rules}
+use Rattle.replay.proofs.Cells.{none_before, not-running, found, none_left}
 use Rattle.replay.proofs.lines.next_running.Goals as goal
 
 pub loop-cell-init : goal.loop-cell-init

@@ -2,10 +2,8 @@
 use mathlib.Core.Path.{◌≡◌}
 use mathlib.Core.Bool.{true, not}
 use Prim.Native.Nat.{◌-◌, ◌≤◌}
-use native.Mathlib.Omega.{arith}
 use Rattle.model.specs.Tab.{all}
-use Rattle.replay.proofs.Cells.{reads-shown, sought, none_before, not-running, found, none_left}
-use borrow.Author.Rules.{rules}
+use Rattle.replay.proofs.Cells.{sought}
 use Rattle.replay.proofs.lines.next_running.Given as goal
 
 abbrev pub invariant-loop-cell : goal.invariant-loop-cell

@@ -1,8 +1,7 @@
 -- `lines::opening` meets its contract: one line or two.
 use mathlib.Core.Path.{sym, ◌∙◌}
 use native.Mathlib.Omega.{arith}
-use Rattle.replay.specs.Lines.Opens.{alone, both}
-use borrow.Author.Rules.{rules}
+use Rattle.replay.specs.Lines.Opens.{both}
 use Rattle.replay.proofs.lines.opening.Goals as goal
 
 pub returns : goal.returns

@@ -1,14 +1,7 @@
 -- `lines::runs` meets its contract. The loop keeps that what is put from here on completes the lines.
-use mathlib.Core.Path.{◌≡◌, refl}
-use mathlib.Core.List.{List}
-use Prim.Native.Nat.{ℕ, ◌-◌, ◌≤◌}
 use native.Mathlib.Omega.{arith}
-use lib.ListN.{length}
-use Rattle.replay.specs.Lines.{RunLines}
 use Rattle.replay.specs.Lines.RunLines.{stop, more}
-use Rattle.replay.proofs.Cells.{reads-shown}
 use Rattle.replay.proofs.Runs.{stops-full, stops-over, goes_on}
-use borrow.Author.Rules.{rules}
 use Rattle.replay.proofs.lines.runs.Goals as goal
 
 pub returns-then-out-end-lt-RUN_MOST : goal.returns-then-out-end-lt-RUN_MOST

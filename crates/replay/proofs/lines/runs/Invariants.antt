@@ -1,14 +1,9 @@
 -- `lines::runs` meets its contract. The loop keeps that what is put from here on completes the lines.
-use mathlib.Core.Path.{◌≡◌, refl}
+use mathlib.Core.Path.{◌≡◌}
 use mathlib.Core.List.{List}
 use Prim.Native.Nat.{ℕ, ◌-◌, ◌≤◌}
-use native.Mathlib.Omega.{arith}
 use lib.ListN.{length}
 use Rattle.replay.specs.Lines.{RunLines}
-use Rattle.replay.specs.Lines.RunLines.{stop, more}
-use Rattle.replay.proofs.Cells.{reads-shown}
-use Rattle.replay.proofs.Runs.{stops-full, stops-over, goes_on}
-use borrow.Author.Rules.{rules}
 use Rattle.replay.proofs.lines.runs.Given as goal
 
 abbrev pub invariant-loop-cell : goal.invariant-loop-cell

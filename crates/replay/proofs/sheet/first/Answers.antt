@@ -1,8 +1,6 @@
 -- `sheet::first` meets its contract: what is replayed is shown.
 use native.Mathlib.Omega.{arith}
 use Rattle.replay.proofs.Shown.{late-shown}
-use Rattle.replay.proofs.Runs.{sheet-of}
-use borrow.Author.Rules.{rules}
 use Rattle.replay.proofs.sheet.first.Goals as goal
 
 pub show-requires : goal.show-requires

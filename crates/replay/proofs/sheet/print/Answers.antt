@@ -1,7 +1,6 @@
-use Rattle.std.proofs.Common.{◌≡◌, ℕ, List, ◌≤◌, arith, length}
+use Rattle.std.proofs.Common.{arith}
 use Rattle.std.specs.Prelude.{Result, OnOk, OnErr, Ok, Err}
 use borrow.Author.Tests.{lt-ltb, le-ltb}
-use Rattle.replay.specs.Lines.{Sheets, SheetsSoFar}
 use Rattle.replay.specs.Lines.Sheets.{last, more}
 use Rattle.replay.specs.Lines.SheetsSoFar.{here}
 use Rattle.replay.specs.Lines.SheetsSoFar.{further as on}

@@ -2,7 +2,6 @@
 use native.Mathlib.Omega.{arith}
 use Rattle.replay.proofs.Shown.{late-reads}
 use Rattle.replay.proofs.Runs.{first-sheet}
-use borrow.Author.Rules.{rules}
 use Rattle.replay.proofs.sheet.show.Goals as goal
 
 pub runs-filled-requires : goal.runs-filled-requires

@@ -4,7 +4,6 @@ use Rattle.engine.proofs.Fits.{still-unfit, still-fit, now-unfit}
 use Rattle.engine.specs.Examined.{examine_state}
 use Rattle.runner.specs.Call.{check_buffer, examine_page}
 use Rattle.runner.proofs.Given.{short-buffer, long-buffer}
-use borrow.Author.Rules.{rules}
 use Rattle.runner.proofs.call.examine_page.Goals as goal
 
 pub returns-in_default : goal.returns-in_default

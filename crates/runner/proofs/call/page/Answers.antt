@@ -5,7 +5,6 @@ use Rattle.runner.specs.Call.{page_told, state_left, log_left}
 use Rattle.forms.specs.Word.{Bytes}
 use Rattle.runner.proofs.Given.{page-fits}
 use Rattle.runner.proofs.Promised.{page-promised}
-use borrow.Author.Rules.{rules}
 use Rattle.runner.proofs.call.page.Goals as goal
 
 pub build-requires : goal.build-requires

@@ -12,7 +12,6 @@ use Rattle.forms.proofs.States.{transitions-same}
 use Rattle.runner.specs.Choice.{Chooses, rest, next, end_at_lfd}
 use Rattle.runner.proofs.Choice.{choice-exact}
 use Rattle.runner.proofs.Clearing.{found-lowest, none_found}
-use borrow.Author.Rules.{rules}
 use Rattle.runner.proofs.choose.choose.Goals as goal
 
 pub lfd-requires : goal.lfd-requires

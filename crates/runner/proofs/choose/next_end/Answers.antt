@@ -1,11 +1,9 @@
 -- `choose::next_end` meets its contract. The loop keeps that no transition passed owes an end.
-use Prim.Native.Nat.{ℕ, ◌-◌, ◌<◌, ◌≤◌}
+use Prim.Native.Nat.{◌<◌}
 use native.Mathlib.Omega.{arith}
-use Rattle.model.specs.Owed.{OwesEnd}
-use Rattle.forms.specs.Stored.{net_of, stored}
+use Rattle.forms.specs.Stored.{net_of}
 use Rattle.forms.proofs.States.{transitions-same}
-use Rattle.runner.proofs.Clearing.{pass-turn, pass-found, pass-none}
-use borrow.Author.Rules.{rules}
+use Rattle.runner.proofs.Clearing.{pass-found, pass-none}
 use Rattle.runner.proofs.choose.next_end.Goals as goal
 
 pub due-requires : goal.due-requires

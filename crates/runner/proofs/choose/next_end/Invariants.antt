@@ -1,11 +1,7 @@
 -- `choose::next_end` meets its contract. The loop keeps that no transition passed owes an end.
 use Prim.Native.Nat.{ℕ, ◌-◌, ◌<◌, ◌≤◌}
-use native.Mathlib.Omega.{arith}
 use Rattle.model.specs.Owed.{OwesEnd}
 use Rattle.forms.specs.Stored.{net_of, stored}
-use Rattle.forms.proofs.States.{transitions-same}
-use Rattle.runner.proofs.Clearing.{pass-turn, pass-found, pass-none}
-use borrow.Author.Rules.{rules}
 use Rattle.runner.proofs.choose.next_end.Given as goal
 
 abbrev pub invariant-loop-t : goal.invariant-loop-t

@@ -1,14 +1,7 @@
 -- `choose::next_start` meets its contract. The loop keeps that no transition passed is enabled.
-use mathlib.Core.Path.{sym, ◌∙◌}
 use Prim.Native.Nat.{ℕ, ◌-◌, ◌<◌, ◌≤◌}
-use native.Mathlib.Omega.{arith}
 use Rattle.model.specs.Owed.{OwesStart}
-use Rattle.model.proofs.Alls.{holds, lacks}
-use Rattle.model.proofs.Tests.{enabled-tells}
 use Rattle.forms.specs.Stored.{net_of, stored}
-use Rattle.forms.proofs.States.{transitions-same}
-use Rattle.runner.proofs.Clearing.{pass-turn, pass-found, pass-none}
-use borrow.Author.Rules.{rules}
 use Rattle.runner.proofs.choose.next_start.Given as goal
 
 abbrev pub invariant-loop-t : goal.invariant-loop-t
