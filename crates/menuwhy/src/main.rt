@@ -30,6 +30,9 @@ const BUFFER: usize = 65536;
 // And one for a word that the program is started with. A longer one arrives with no bytes.
 const WORD_MOST: usize = 4096;
 
+// And one for the system's words on an error, which are far fewer.
+const WORDS_MOST: usize = 256;
+
 fn usage<W: Write>(to: &mut W) -> io::Result<()> {
     to.write_all(b"usage: menuwhy [--all] [--states] [--names FILE] NET LOG [LAST]\n")
 }
@@ -48,9 +51,9 @@ fn take_arguments<E: Env>(env: &E) -> Asked {
     asked
 }
 
-// The system's words, without the number that the library puts behind them.
-fn without_number(text: &str) -> &str {
-    match text.split_once(" (os error ") {
+// The text in front of this one, or all of it.
+fn in_front<'a>(text: &'a str, of: &str) -> &'a str {
+    match text.split_once(of) {
         Some((words, _)) => words,
         None => text,
     }
@@ -58,8 +61,19 @@ fn without_number(text: &str) -> &str {
 
 // Says on standard error why a file was not opened.
 fn tell_unopened(rt: &HostRuntime, name: &str, error: &io::Error) -> io::Result<()> {
-    let text = format!(in rt.alloc(); "{error}")?;
-    eprintln!(rt; "{name}: {}", without_number(text.as_str()))
+    let mut text = [0u8; WORDS_MOST];
+    let mut rest = &mut text[..];
+    if write!(rest, "{error}").is_err() {
+        return eprintln!(rt; "{name}: not opened");
+    }
+    match str::from_utf8(&text) {
+        Ok(words) => {
+            // without the number that the library puts behind the words, and the rest of the buffer
+            let said = in_front(in_front(words, "\0"), " (os error ");
+            eprintln!(rt; "{name}: {said}")
+        }
+        Err(_) => eprintln!(rt; "{name}: not opened"),
+    }
 }
 
 // Fills the buffer from the file of this name, and answers how many bytes it has; or says on standard error why there are none, and answers the
