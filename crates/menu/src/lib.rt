@@ -1,8 +1,8 @@
 // The calls of the engine, of the page runner and of the balance for programs in C and other languages. The crate menu_c is the static library
-// of them, which include/menu.h declares; a slice is a pointer and a length there. Each function tells its answer in a lent array of numbers, in the order that it has there, so that one form serves
-// every call and no struct's layout is agreed upon twice. None asks anything of the bytes that it is given, and the last clause of each
-// contract is the call's promise, of these very numbers and bytes. `started` is 0 where no start has happened in the step, and any other number
-// where one has.
+// of them, which include/menu.h declares; a slice is a pointer and a length there. Each function tells its answer in a lent array of numbers, in the
+// order that it has there, so that one form serves every call and no struct's layout is agreed upon twice. None asks anything of the bytes that it
+// is given, and the last clause of each contract is the call's promise, of these very numbers and bytes. `started` is 0 where no start has happened
+// in the step, and any other number where one has.
 #![tactic(auto)]
 
 ghost use Rattle.std.specs.Prelude.{◌≡◌};

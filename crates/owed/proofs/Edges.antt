@@ -21,4 +21,4 @@ owed-numbers = record { initial = refl; second = refl; due = refl; running = ref
 
 pub bit-numbers : BitNumbers
 unfolding word_of short_place lowest word
-bit-numbers = record { highest = refl; is_set = refl; is_not = refl; lowest_place = refl; no_place_lem = refl }
+bit-numbers = record { highest = refl; is_set = refl; is_not = refl; lowest_place = refl; no-place = refl }

@@ -43,4 +43,4 @@ pub record BitNumbers : Type 0 where
   pub is_not : bit_at 0x8000000000000000 62 ≡ false
   -- of the places 1 and 2, which lack tokens for transition 1, the lowest; and none, for transition 0
   pub lowest_place : short_place (set (set row_net 23 1) 25 1) 23 row_state 3 ≡ 1
-  pub no_place_lem : short_place row_net 15 row_state 3 ≡ 3
+  pub no-place : short_place row_net 15 row_state 3 ≡ 3

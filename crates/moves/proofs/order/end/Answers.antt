@@ -17,4 +17,4 @@ returns-then-not-may_end c =
 pub returns : goal.returns
 returns c =
     rw (end-any (net_of c.args.net.now) c.args.started (stored c.args.net.now c.args.state.now) c.args.t c.args.age
-    (passed c.may_end.ensures c.if-not-may_end.false)) c.end.ensures  -- !! labels ['value', 'state_after']
+    (passed c.may_end.ensures c.if-not-may_end.false)) c.end.ensures
