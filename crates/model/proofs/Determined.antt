@@ -11,28 +11,32 @@ use Rattle.model.proofs.age.Age.column.Reads as age-column
 use Rattle.model.proofs.age.Age.column.Kinds as age-column-kinds
 use Rattle.model.proofs.age.Column.age.Reads as column-age
 use Rattle.model.proofs.age.Column.age.Kinds as column-age-kinds
-use Rattle.model.proofs.event.Event.of.Reads as event-of
-use Rattle.model.proofs.event.Event.of.Kinds as event-of-kinds
+use Rattle.model.proofs.event.EventFromPair.from.Reads as event-from-pair
+use Rattle.model.proofs.event.EventFromPair.from.Kinds as event-from-pair-kinds
 use Rattle.model.proofs.event.Event.started_by.Reads as event-started-by
 use Rattle.model.proofs.event.Event.started_by.Kinds as event-started-by-kinds
 use Rattle.model.proofs.event.Event.first.Reads as event-first
 use Rattle.model.proofs.event.Event.first.Kinds as event-first-kinds
 use Rattle.model.proofs.event.Event.second.Reads as event-second
 use Rattle.model.proofs.event.Event.second.Kinds as event-second-kinds
-use Rattle.model.proofs.answer.Barrier.number.Reads as barrier-number
-use Rattle.model.proofs.answer.Barrier.number.Kinds as barrier-number-kinds
-use Rattle.model.proofs.answer.Refusal.number.Reads as refusal-number
-use Rattle.model.proofs.answer.Refusal.number.Kinds as refusal-number-kinds
-use Rattle.model.proofs.answer.Answer.number.Reads as answer-number
-use Rattle.model.proofs.answer.Answer.number.Kinds as answer-number-kinds
+use Rattle.model.proofs.event.Pair.is_tick.Reads as pair-is-tick
+use Rattle.model.proofs.event.Pair.is_tick.Kinds as pair-is-tick-kinds
+use Rattle.model.proofs.event.Pair.is_start.Reads as pair-is-start
+use Rattle.model.proofs.event.Pair.is_start.Kinds as pair-is-start-kinds
+use Rattle.model.proofs.answer.U8FromBarrier.from.Reads as barrier-number
+use Rattle.model.proofs.answer.U8FromBarrier.from.Kinds as barrier-number-kinds
+use Rattle.model.proofs.answer.U8FromRefusal.from.Reads as refusal-number
+use Rattle.model.proofs.answer.U8FromRefusal.from.Kinds as refusal-number-kinds
+use Rattle.model.proofs.answer.number_of.Reads as answer-number
+use Rattle.model.proofs.answer.number_of.Kinds as answer-number-kinds
 use Rattle.model.proofs.answer.Short.nothing.Reads as short-nothing
 use Rattle.model.proofs.answer.Short.nothing.Kinds as short-nothing-kinds
 use Rattle.model.proofs.answer.Refusal.short.Reads as refusal-short
 use Rattle.model.proofs.answer.Refusal.short.Kinds as refusal-short-kinds
-use Rattle.model.proofs.answer.Answer.short.Reads as answer-short
-use Rattle.model.proofs.answer.Answer.short.Kinds as answer-short-kinds
-use Rattle.model.proofs.answer.Standing.number.Reads as standing-number
-use Rattle.model.proofs.answer.Standing.number.Kinds as standing-number-kinds
+use Rattle.model.proofs.answer.short_of.Reads as answer-short
+use Rattle.model.proofs.answer.short_of.Kinds as answer-short-kinds
+use Rattle.model.proofs.answer.U8FromStanding.from.Reads as standing-number
+use Rattle.model.proofs.answer.U8FromStanding.from.Kinds as standing-number-kinds
 use Rattle.model.proofs.net.Net.new.Reads as net-new
 use Rattle.model.proofs.net.Net.new.Kinds as net-new-kinds
 use Rattle.model.proofs.net.Net.sized.Reads as net-sized
@@ -62,8 +66,8 @@ age-column-determined κs args x y s s' p q = p ∙ sym q
 pub column-age-determined : Determined 0 column-age-kinds.ps column-age-kinds.r column-age.Learnt
 column-age-determined κs args x y s s' p q = p ∙ sym q
 
-pub event-of-determined : Determined 0 event-of-kinds.ps event-of-kinds.r event-of.Learnt
-event-of-determined κs args x y s s' p q = p ∙ sym q
+pub event-from-pair-determined : Determined 0 event-from-pair-kinds.ps event-from-pair-kinds.r event-from-pair.Learnt
+event-from-pair-determined κs args x y s s' p q = p ∙ sym q
 
 pub event-first-determined : Determined 0 event-first-kinds.ps event-first-kinds.r event-first.Learnt
 event-first-determined κs args x y s s' p q = p ∙ sym q
@@ -73,6 +77,12 @@ event-second-determined κs args x y s s' p q = p ∙ sym q
 
 pub event-started-by-determined : Determined 0 event-started-by-kinds.ps event-started-by-kinds.r event-started-by.Learnt
 event-started-by-determined κs args x y s s' p q = p ∙ sym q
+
+pub pair-is-tick-determined : Determined 0 pair-is-tick-kinds.ps pair-is-tick-kinds.r pair-is-tick.Learnt
+pair-is-tick-determined κs args x y s s' p q = p ∙ sym q
+
+pub pair-is-start-determined : Determined 0 pair-is-start-kinds.ps pair-is-start-kinds.r pair-is-start.Learnt
+pair-is-start-determined κs args x y s s' p q = p ∙ sym q
 
 pub barrier-number-determined : Determined 0 barrier-number-kinds.ps barrier-number-kinds.r barrier-number.Learnt
 barrier-number-determined κs args x y s s' p q = p ∙ sym q

@@ -1,5 +1,6 @@
 -- A refusal by what is told of it: no two tell the same, and none tells what is told of an event that is done.
 -- Assumes nothing.
+use Rattle.std.specs.Prelude.{Ok, Err}
 use mathlib.Core.Path.{◌≡◌, refl, sym, ap, ◌∙◌}
 use mathlib.Core.Bool.{cond}
 use Prim.Native.Nat.{ℕ}
@@ -9,9 +10,7 @@ use Rattle.model.specs.declared.answer.Barrier.{Barrier}
 use Rattle.model.specs.declared.answer.Barrier.TheVariants as barrier
 use Rattle.model.specs.declared.answer.Refusal.{Refusal}
 use Rattle.model.specs.declared.answer.Refusal.TheVariants as refusal
-use Rattle.model.specs.declared.answer.Answer.{Answer}
-use Rattle.model.specs.declared.answer.Answer.TheVariants as answer
-use Rattle.model.specs.Answer.{Telling, nothing_short, plain, number_of_barrier, telling_of_refusal, number_of_refusal, number_of, short_of}
+use Rattle.model.specs.Answer.{Answer, Telling, nothing_short, plain, number_of_barrier, telling_of_refusal, number_of_refusal, number_of, short_of}
 
 barrier-number : {C : Type 0} (why : Barrier) → number_of_barrier why ≡ 0 → C
 barrier-number barrier.SomeFresh e = absurd (omega arith)
@@ -92,8 +91,8 @@ plainly refusal.NothingRunning h = refl
 plainly (refusal.OnlyBack why) h = refl
 
 pub no_place_lem : (a : Answer) → ¬ (number_of a ≡ 13) → short_of a ≡ nothing_short
-no_place_lem answer.Done h = refl
-no_place_lem (answer.Refused why) h = ap (λ (x : Telling). x.short) (plainly why h)
+no_place_lem (Ok _) h = refl
+no_place_lem (Err why) h = ap (λ (x : Telling). x.short) (plainly why h)
 
 -- so of these two with one number are one
 pub one_number : (why other : Refusal) → ¬ (number_of_refusal why ≡ 13) → number_of_refusal why ≡ number_of_refusal other → why ≡ other

@@ -1,16 +1,18 @@
 -- The numbers for the answer to an event, done or taken back, with the place that 13 tells of, and for the standing: document 01's,
 -- 24 to 27 of request W4, 28 and 29 of W5.
 -- Assumes nothing.
-use Rattle.std.specs.Prelude.{ℕ}
+use Rattle.std.specs.Prelude.{ℕ, Result, Ok, Err, ⊤}
 use Rattle.model.specs.declared.answer.Short.{Short}
 use Rattle.model.specs.declared.answer.Barrier.{Barrier}
 use Rattle.model.specs.declared.answer.Barrier.TheVariants as barrier
 use Rattle.model.specs.declared.answer.Refusal.{Refusal}
 use Rattle.model.specs.declared.answer.Refusal.TheVariants as refusal
-use Rattle.model.specs.declared.answer.Answer.{Answer}
-use Rattle.model.specs.declared.answer.Answer.TheVariants as answer
 use Rattle.model.specs.declared.answer.Standing.{Standing}
 use Rattle.model.specs.declared.answer.Standing.TheVariants as standing
+
+-- the answer to one event, done or taken back
+abbrev pub Answer : Type 0
+Answer = Result ⊤ Refusal
 
 -- no place is short
 abbrev pub nothing_short : Short
@@ -49,8 +51,8 @@ telling_of_refusal refusal.NothingRunning = plain 20
 telling_of_refusal (refusal.OnlyBack barrier) = plain (number_of_barrier barrier)
 
 abbrev pub telling_of : Answer → Telling
-telling_of answer.Done = plain 0
-telling_of (answer.Refused why) = telling_of_refusal why
+telling_of (Ok _) = plain 0
+telling_of (Err why) = telling_of_refusal why
 
 abbrev pub number_of_refusal : Refusal → ℕ
 number_of_refusal why = (telling_of_refusal why).number

@@ -1,15 +1,14 @@
 -- The rules of the events as functions that compute: one event done, one event taken back, the degree. Their only control
 -- structure is `unless`, in the order of the numbers' table. proofs/ ties them to the relations of Moves.antt and Refusals.antt.
 -- Assumes nothing.
-use Rattle.std.specs.Prelude.{Bool, cond, ◌&&◌, not, ℕ, zero, suc, ◌+◌, ◌-◌, ◌/◌, leb, ltb, eqb}
+use Rattle.std.specs.Prelude.{Ok, Err, Bool, cond, ◌&&◌, not, ℕ, zero, suc, ◌+◌, ◌-◌, ◌/◌, leb, ltb, eqb}
 use Rattle.model.specs.declared.event.Event.{Event}
 use Rattle.model.specs.declared.event.Event.TheVariants as event
 use Rattle.model.specs.declared.answer.Short.{Short}
 use Rattle.model.specs.declared.answer.Barrier.TheVariants as barrier
 use Rattle.model.specs.declared.answer.Refusal.{Refusal}
 use Rattle.model.specs.declared.answer.Refusal.TheVariants as refusal
-use Rattle.model.specs.declared.answer.Answer.{Answer}
-use Rattle.model.specs.declared.answer.Answer.TheVariants as answer
+use Rattle.model.specs.Answer.{Answer}
 use Rattle.model.specs.Tab.{implies, all, one, least, lowest}
 use Rattle.model.specs.Limits.{is_held, token_limit}
 use Rattle.model.specs.Net.{Net, State, width, tokens, count, build}
@@ -26,8 +25,8 @@ abbrev pub unless : Bool → Refusal → Outcome → Outcome
 unless b why rest = cond b rest (refused why)
 
 abbrev pub answer_of : Outcome → Answer
-answer_of (done S) = answer.Done
-answer_of (refused why) = answer.Refused why
+answer_of (done S) = Ok tt
+answer_of (refused why) = Err why
 
 -- the state that stands after an event in S: a refused event changes nothing
 abbrev pub state_after : State → Outcome → State

@@ -12,6 +12,7 @@ pub struct Age(pub u8);
 pub struct Column(pub u16);
 
 impl Age {
+    // A method, as its inverse is: that asks for a column that an age has, which no `From` can ask.
     pub fn column(self) -> Column
         ensures { result ≡ column_of self }
     {

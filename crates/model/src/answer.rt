@@ -32,11 +32,11 @@ pub enum Barrier {
     CountOverfull,
 }
 
-impl Barrier {
-    pub fn number(self) -> u8
-        ensures { result ≡ number_of_barrier self }
-    {
-        match self {
+impl From<Barrier> for u8 {
+    ghost from_gives = { λ barrier number. number ≡ number_of_barrier barrier };
+
+    fn from(barrier: Barrier) -> u8 {
+        match barrier {
             Barrier::SomeFresh => 21,
             Barrier::NoneStarted => 24,
             Barrier::PlaceOverfull => 25,
@@ -70,11 +70,11 @@ pub enum Refusal {
     OnlyBack(Barrier),
 }
 
-impl Refusal {
-    pub fn number(self) -> u8
-        ensures { result ≡ number_of_refusal self }
-    {
-        match self {
+impl From<Refusal> for u8 {
+    ghost from_gives = { λ refusal number. number ≡ number_of_refusal refusal };
+
+    fn from(refusal: Refusal) -> u8 {
+        match refusal {
             Refusal::Malformed => 11,
             Refusal::NoSuchTransition => 12,
             Refusal::NotEnabled(_) => 13,
@@ -87,56 +87,51 @@ impl Refusal {
             Refusal::StartOwed => 18,
             Refusal::EndOwed => 19,
             Refusal::NothingRunning => 20,
-            Refusal::OnlyBack(barrier) => barrier.number(),
+            Refusal::OnlyBack(barrier) => barrier.into(),
         }
     }
+}
 
+impl Refusal {
     // The place that is short, which 13 alone tells. Each refusal is named, so that a new one must say what it tells.
     pub fn short(self) -> Short
         ensures { result ≡ short_of_refusal self }
     {
         match self {
-            Refusal::Malformed => Short::nothing(),
-            Refusal::NoSuchTransition => Short::nothing(),
             Refusal::NotEnabled(short) => short,
-            Refusal::OldEndOwed => Short::nothing(),
-            Refusal::CountFull => Short::nothing(),
-            Refusal::OutsideInterval => Short::nothing(),
-            Refusal::OldAfterStart => Short::nothing(),
-            Refusal::NoneOfThatAge => Short::nothing(),
-            Refusal::PlaceFull => Short::nothing(),
-            Refusal::StartOwed => Short::nothing(),
-            Refusal::EndOwed => Short::nothing(),
-            Refusal::NothingRunning => Short::nothing(),
-            Refusal::OnlyBack(_) => Short::nothing(),
+            Refusal::Malformed
+            | Refusal::NoSuchTransition
+            | Refusal::OldEndOwed
+            | Refusal::CountFull
+            | Refusal::OutsideInterval
+            | Refusal::OldAfterStart
+            | Refusal::NoneOfThatAge
+            | Refusal::PlaceFull
+            | Refusal::StartOwed
+            | Refusal::EndOwed
+            | Refusal::NothingRunning
+            | Refusal::OnlyBack(_) => Short::nothing(),
         }
     }
 }
 
-// The answer to one event, and to one event taken back.
-#[derive(Clone, Copy)]
-pub enum Answer {
-    Done,
-    Refused(Refusal),
+// The number of the answer to an event, done or taken back: 0 where nothing is refused.
+pub fn number_of(answer: Result<(), Refusal>) -> u8
+    ensures { result ≡ number_of answer }
+{
+    match answer {
+        Ok(()) => 0,
+        Err(why) => why.into(),
+    }
 }
 
-impl Answer {
-    pub fn number(self) -> u8
-        ensures { result ≡ number_of self }
-    {
-        match self {
-            Answer::Done => 0,
-            Answer::Refused(why) => why.number(),
-        }
-    }
-
-    pub fn short(self) -> Short
-        ensures { result ≡ short_of self }
-    {
-        match self {
-            Answer::Done => Short::nothing(),
-            Answer::Refused(why) => why.short(),
-        }
+// The place that is short, of such an answer.
+pub fn short_of(answer: Result<(), Refusal>) -> Short
+    ensures { result ≡ short_of answer }
+{
+    match answer {
+        Ok(()) => Short::nothing(),
+        Err(why) => why.short(),
     }
 }
 
@@ -149,11 +144,11 @@ pub enum Standing {
     AtRest,
 }
 
-impl Standing {
-    pub fn number(self) -> u8
-        ensures { result ≡ number_of_standing self }
-    {
-        match self {
+impl From<Standing> for u8 {
+    ghost from_gives = { λ standing number. number ≡ number_of_standing standing };
+
+    fn from(standing: Standing) -> u8 {
+        match standing {
             Standing::StartOwed => 1,
             Standing::EndOwed => 2,
             Standing::FreeToTick => 3,

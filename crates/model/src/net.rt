@@ -36,26 +36,14 @@ impl Net {
     pub fn sized(places: usize, transitions: usize) -> bool
         ensures { result ≡ is_sized places transitions }
     {
-        if places < 1 {
-            return false;
-        }
-        if Net::MAX_PLACES < places {
-            return false;
-        }
-        if transitions < 1 {
-            return false;
-        }
-        transitions <= Net::MAX_TRANSITIONS
+        (1..=Net::MAX_PLACES).contains(&places) && (1..=Net::MAX_TRANSITIONS).contains(&transitions)
     }
 
     // A transition may have these shortest and longest durations.
     pub fn is_interval(sfd: usize, lfd: usize) -> bool
         ensures { result ≡ is_interval sfd lfd }
     {
-        if lfd < sfd {
-            return false;
-        }
-        lfd <= Net::MAX_DURATION
+        sfd <= lfd && lfd <= Net::MAX_DURATION
     }
 
     // A log may have so many events.
