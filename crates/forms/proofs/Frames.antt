@@ -1,6 +1,7 @@
 -- What acceptance gives: the checks put bytes in their frame, the initial state is in it, and a lawful state written over one that is
 -- stays in it.
 -- Assumes nothing.
+use Rattle.std.proofs.Common.{Ok}
 use mathlib.Core.Path.{◌≡◌, ap, ◌∙◌}
 use mathlib.Core.List.{List}
 use Prim.Native.Nat.{ℕ, ◌≤◌}
@@ -11,7 +12,6 @@ use Rattle.model.specs.declared.net.Net.{Net as Shape}
 use Rattle.model.specs.Net.{Net, State, Lawful, width, initial_state}
 use Rattle.model.proofs.Shape.{width_is}
 use Rattle.model.proofs.Lawful.{initial-lawful}
-use Rattle.forms.specs.declared.fault.Checked.TheVariants as checked
 use Rattle.forms.specs.Word.{Bytes, word}
 use Rattle.forms.specs.Places.{image_length}
 use Rattle.forms.specs.Stored.{net_of}
@@ -27,10 +27,10 @@ use Rattle.forms.proofs.Image.{head-word, image-accepted, image-reads}
 use Rattle.forms.proofs.ListedState.{image-listed}
 
 -- the checks give the frame
-pub net_frame : (net : List ℕ) (shape : Shape) → check_net net ≡ checked.Good → HasShape (net_of net) shape → FramedNet net shape
+pub net_frame : (net : List ℕ) (shape : Shape) → check_net net ≡ Ok tt → HasShape (net_of net) shape → FramedNet net shape
 net_frame net shape e h = record { is_net = (net-exact net).0 e; has_shape = h }
 
-pub frame : (net : List ℕ) (shape : Shape) (state : List ℕ) → FramedNet net shape → check_state (net_of net) state ≡ checked.Good → Framed net shape state
+pub frame : (net : List ℕ) (shape : Shape) (state : List ℕ) → FramedNet net shape → check_state (net_of net) state ≡ Ok tt → Framed net shape state
 frame net shape state f e = record { net_framed = f; is_state = (state-exact (net_of net) state).0 e }
 
 -- a lawful state that is written over a state is one

@@ -1,6 +1,7 @@
 -- The whole image of a state at the front of a buffer: it is accepted as a state and reads as that state.
 -- And the image of the initial state, as the code writes it.
 -- Assumes nothing.
+use Rattle.std.proofs.Common.{Ok, Err}
 use mathlib.Core.Path.{◌≡◌, refl, sym, ap, ◌∙◌}
 use mathlib.Core.Logic.{◌↔◌}
 use mathlib.Core.Bool.{true, false}
@@ -17,7 +18,6 @@ use Rattle.model.specs.Net.{Net, State, Lawful, Initial, width, tokens, count, i
 use Rattle.model.proofs.Tests.{leb_tells}
 use Rattle.model.proofs.Shape.{initial-exact}
 use Rattle.forms.specs.declared.fault.Fault.TheVariants as fault
-use Rattle.forms.specs.declared.fault.Checked.TheVariants as checked
 use Rattle.forms.specs.Word.{byte, word, word32, set_word, set_word32, put_words}
 use Rattle.forms.specs.Places.{initial_at, state_length, image_length}
 use Rattle.forms.specs.Stored.{net_of, state_of}
@@ -178,7 +178,7 @@ module _ (net : List ℕ) (shape : Shape) (h : HasShape (net_of net) shape) (b :
 
   -- where there is no room, and where there is
   pub no_room : length b < state_length shape.places shape.transitions shape.width
-      → (checked.Bad fault.NoRoom ≡ check_room (net_of net) b) × (b ≡ after_initial (net_of net) b)
+      → (Err fault.NoRoom ≡ check_room (net_of net) b) × (b ≡ after_initial (net_of net) b)
   unfolding check_room after_initial
   no_room l =
       let short : leb (image_length (net_of net)) (length b) ≡ false = lt-leb (image_length (net_of net)) (length b) (rw length-same at l) in
@@ -186,20 +186,20 @@ module _ (net : List ℕ) (shape : Shape) (h : HasShape (net_of net) shape) (b :
 
   pub room : state_length shape.places shape.transitions shape.width ≤ length b → (after : List ℕ)
       → after ≡ written-so shape.places shape.transitions shape.width
-      → (checked.Good ≡ check_room (net_of net) b) × (after ≡ after_initial (net_of net) b)
+      → (Ok tt ≡ check_room (net_of net) b) × (after ≡ after_initial (net_of net) b)
   unfolding check_room after_initial
   room l after e =
       let long : leb (image_length (net_of net)) (length b) ≡ true = le-leb (image_length (net_of net)) (length b) (rw length-same at l) in
       (rw long, rw long (e ∙ initial_is))
 
 -- 7 is told exactly where the buffer is too short, and then no byte is written
-pub room-exact : (N : Net) (b : List ℕ) → (check_room N b ≡ checked.Good) ↔ (image_length N ≤ length b)
+pub room-exact : (N : Net) (b : List ℕ) → (check_room N b ≡ Ok tt) ↔ (image_length N ≤ length b)
 unfolding check_room
 room-exact N b =
     let passes = unless-good {B = Unit {0}} fault.NoRoom (leb_tells (image_length N) (length b)) ((λ _. tt), λ _. refl) in
     ((λ e. (passes.0 e).0), λ h. passes.1 (h, tt))
 
-pub room-faulty : (N : Net) (b : List ℕ) → (check_room N b ≡ checked.Bad fault.NoRoom) ↔ (length b < image_length N)
+pub room-faulty : (N : Net) (b : List ℕ) → (check_room N b ≡ Err fault.NoRoom) ↔ (length b < image_length N)
 unfolding check_room
 room-faulty N b = (
   fault-by fault.NoRoom _ (leb_tells (image_length N) (length b)) (λ f _. short (image_length N) (length b) f) (λ _. never),

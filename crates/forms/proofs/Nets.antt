@@ -1,5 +1,6 @@
 -- The check of a net: each fault is told exactly when document 01's table has it, and what is accepted is a net of the model.
 -- Assumes nothing.
+use Rattle.std.proofs.Common.{Ok, Err}
 use mathlib.Core.Path.{◌≡◌, refl, ap, ◌∙◌}
 use mathlib.Core.Bool.{true, false}
 use mathlib.Core.Logic.{◌↔◌}
@@ -17,7 +18,6 @@ use Rattle.model.proofs.Tab.{both-tell, all-tells}
 use Rattle.model.proofs.Tests.{tells_as, leb_tells, eqb_tells, not-tells, sized-tells, interval-tells, some-fails}
 use Rattle.forms.specs.declared.fault.Fault.{Fault}
 use Rattle.forms.specs.declared.fault.Fault.TheVariants as fault
-use Rattle.forms.specs.declared.fault.Checked.TheVariants as checked
 use Rattle.forms.specs.Checked.{in_turn}
 use Rattle.forms.specs.Word.{Bytes, byte, word32}
 use Rattle.forms.specs.Begins.{version, Begins, begins_with}
@@ -62,16 +62,16 @@ some-weight-tells n f =
 -- THE ANSWERS OF `check_net`
 
 module _ (b : List ℕ) where
-  pub net-no-frame : has_net_head b ≡ false → checked.Bad fault.NetFrame ≡ check_net b
+  pub net-no-frame : has_net_head b ≡ false → Err fault.NetFrame ≡ check_net b
   unfolding check_net
   net-no-frame f = rw f
 
-  pub net-no-size : has_net_head b ≡ true → is_sized (byte b 5) (byte b 6) ≡ false → checked.Bad fault.NetSize ≡ check_net b
+  pub net-no-size : has_net_head b ≡ true → is_sized (byte b 5) (byte b 6) ≡ false → Err fault.NetSize ≡ check_net b
   unfolding check_net
   net-no-size f s = rw (f, s)
 
   pub net-no-length : has_net_head b ≡ true → is_sized (byte b 5) (byte b 6) ≡ true
-      → eqb (length b) (net_length (byte b 5) (byte b 6)) ≡ false → checked.Bad fault.NetLength ≡ check_net b
+      → eqb (length b) (net_length (byte b 5) (byte b 6)) ≡ false → Err fault.NetLength ≡ check_net b
   unfolding check_net
   net-no-length f s l = rw (f, s, l)
 
@@ -93,7 +93,7 @@ module _ (N : Net) (t : ℕ) where
   output-is = some-weight-tells N.places (N.gives t)
 
   -- none of 4, 5 and 6 is told exactly where the transition is good
-  pub row-exact : (check_row N t ≡ checked.Good) ↔ RowGood N t
+  pub row-exact : (check_row N t ≡ Ok tt) ↔ RowGood N t
   unfolding check_row
   row-exact =
       let passes =
@@ -104,7 +104,7 @@ module _ (N : Net) (t : ℕ) where
       )
 
   -- and each is told exactly when
-  pub row-faulty : (why : Fault) → (check_row N t ≡ checked.Bad why) ↔ RowFaulty N t why
+  pub row-faulty : (why : Fault) → (check_row N t ≡ Err why) ↔ RowFaulty N t why
   unfolding check_row
   row-faulty why = (
     fault-by (fault.NoInterval t) _ interval-is (λ f q. rw q (RowFaulty.no_interval f)) (λ i.
@@ -113,7 +113,7 @@ module _ (N : Net) (t : ℕ) where
     told,
   )
     where
-      told : {why : Fault} → RowFaulty N t why → check_row N t ≡ checked.Bad why
+      told : {why : Fault} → RowFaulty N t why → check_row N t ≡ Err why
       told (RowFaulty.no_interval f) = fails (fault.NoInterval t) _ interval-is f
       told (RowFaulty.no_input i f) = past (fault.NoInterval t) interval-is i (fails (fault.NoInput t) _ input-is f)
       told (RowFaulty.no_output i p f) =
@@ -122,12 +122,12 @@ module _ (N : Net) (t : ℕ) where
 -- THE NET
 
 module _ (b : List ℕ) where
-  abbrev rows_are : (in_turn (check_row (net_of b)) 0 (byte b 6) ≡ checked.Good)
-      ↔ ((t : ℕ) → t < byte b 6 → check_row (net_of b) t ≡ checked.Good)
+  abbrev rows_are : (in_turn (check_row (net_of b)) 0 (byte b 6) ≡ Ok tt)
+      ↔ ((t : ℕ) → t < byte b 6 → check_row (net_of b) t ≡ Ok tt)
   rows_are = turn-good (check_row (net_of b)) (byte b 6)
 
   -- none of 1 to 6 is told exactly where the bytes are a net
-  pub net-exact : (check_net b ≡ checked.Good) ↔ IsNet b
+  pub net-exact : (check_net b ≡ Ok tt) ↔ IsNet b
   unfolding check_net
   net-exact =
       let passes =
@@ -138,7 +138,7 @@ module _ (b : List ℕ) where
         λ n. passes.1 (n.head, (n.sized, (n.long, λ t h. (row-exact (net_of b) t).1 (n.rows t h)))),
       )
 
-  told-net : {why : Fault} → NetFaulty b why → check_net b ≡ checked.Bad why
+  told-net : {why : Fault} → NetFaulty b why → check_net b ≡ Err why
   unfolding check_net
   told-net (NetFaulty.frame f) = fails fault.NetFrame _ (net-head-tells b) f
   told-net (NetFaulty.size f s) =
@@ -154,7 +154,7 @@ module _ (b : List ℕ) where
       (t, h, (λ u k. (row-exact (net_of b) u).1 (lower u k)), (row-faulty (net_of b) t why).1 r))))
 
   -- and each is told exactly when document 01's table has it
-  pub net-faulty : (why : Fault) → (check_net b ≡ checked.Bad why) ↔ NetFaulty b why
+  pub net-faulty : (why : Fault) → (check_net b ≡ Err why) ↔ NetFaulty b why
   unfolding check_net
   net-faulty why = (
     fault-by fault.NetFrame _ (net-head-tells b) (λ a q. rw q (NetFaulty.frame a)) (λ f.

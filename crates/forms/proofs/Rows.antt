@@ -1,5 +1,6 @@
 -- The check of one transition, and of all in turn, as the code goes through them.
 -- Assumes nothing.
+use Rattle.std.proofs.Common.{Ok, Err}
 use mathlib.Core.Path.{◌≡◌, ◌∙◌}
 use mathlib.Core.Bool.{true, false}
 use mathlib.Core.List.{List}
@@ -9,7 +10,6 @@ use native.Mathlib.Omega.{arith}
 use Rattle.model.specs.Limits.{is_interval}
 use Rattle.model.specs.Net.{Net}
 use Rattle.forms.specs.declared.fault.Fault.TheVariants as fault
-use Rattle.forms.specs.declared.fault.Checked.TheVariants as checked
 use Rattle.forms.specs.Word.{byte}
 use Rattle.forms.specs.Places.{row_at, row_length, lfd_at, inputs_at, outputs_at}
 use Rattle.forms.specs.Stored.{net_of}
@@ -48,21 +48,21 @@ module _ (net : List ℕ) (t P : ℕ) (p : P ≡ byte net 5) where
 -- THE ANSWERS OF `check_row`
 
 module _ (N : Net) (t : ℕ) where
-  pub row-no-interval : is_interval (N.sfd t) (N.lfd t) ≡ false → checked.Bad (fault.NoInterval t) ≡ check_row N t
+  pub row-no-interval : is_interval (N.sfd t) (N.lfd t) ≡ false → Err (fault.NoInterval t) ≡ check_row N t
   unfolding check_row
   row-no-interval i = rw i
 
   pub row-no-input : is_interval (N.sfd t) (N.lfd t) ≡ true → has_some_weight N.places (N.takes t) ≡ false
-      → checked.Bad (fault.NoInput t) ≡ check_row N t
+      → Err (fault.NoInput t) ≡ check_row N t
   unfolding check_row
   row-no-input i w = rw (i, w)
 
   pub row-no-output : is_interval (N.sfd t) (N.lfd t) ≡ true → has_some_weight N.places (N.takes t) ≡ true
-      → has_some_weight N.places (N.gives t) ≡ false → checked.Bad (fault.NoOutput t) ≡ check_row N t
+      → has_some_weight N.places (N.gives t) ≡ false → Err (fault.NoOutput t) ≡ check_row N t
   unfolding check_row
   row-no-output i w v = rw (i, w, v)
 
   pub row-good : is_interval (N.sfd t) (N.lfd t) ≡ true → has_some_weight N.places (N.takes t) ≡ true
-      → has_some_weight N.places (N.gives t) ≡ true → checked.Good ≡ check_row N t
+      → has_some_weight N.places (N.gives t) ≡ true → Ok tt ≡ check_row N t
   unfolding check_row
   row-good i w v = rw (i, w, v)

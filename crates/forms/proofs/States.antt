@@ -1,6 +1,7 @@
 -- The check of a state: 8 and 9 are told exactly when document 01's table has them, and what is accepted is a lawful state of the
 -- model.
 -- Assumes nothing.
+use Rattle.std.proofs.Common.{Ok, Err}
 use mathlib.Core.Path.{◌≡◌, refl, sym, ap, ◌∙◌}
 use mathlib.Core.Bool.{false}
 use mathlib.Core.Logic.{◌↔◌}
@@ -19,10 +20,9 @@ use Rattle.model.specs.Net.{Net, Lawful, width}
 use Rattle.model.proofs.Tab.{both-tell, all-tells}
 use Rattle.model.proofs.Shape.{lfd-fits, width-short}
 use Rattle.model.proofs.Tests.{tells_as, leb_tells, eqb_tells, told-false}
+use Rattle.forms.specs.Checked.{Checked}
 use Rattle.forms.specs.declared.fault.Fault.{Fault}
 use Rattle.forms.specs.declared.fault.Fault.TheVariants as fault
-use Rattle.forms.specs.declared.fault.Checked.{Checked}
-use Rattle.forms.specs.declared.fault.Checked.TheVariants as checked
 use Rattle.forms.specs.Word.{Bytes, byte, word, is_blank}
 use Rattle.forms.specs.Places.{mark_at, clock_at, count_at, state_length}
 use Rattle.forms.specs.Stored.{net_of, state_of}
@@ -131,19 +131,19 @@ module _ (N : Net) (b : List ℕ) where
   abbrev counts : ℕ → Checked
   counts = check_counts N b
 
-  counts-good : (t : ℕ) → t < N.transitions → (counts t ≡ checked.Good) ↔ NonePast N b t
+  counts-good : (t : ℕ) → t < N.transitions → (counts t ≡ Ok tt) ↔ NonePast N b t
   counts-good t l =
       let passes = unless-good {B = Unit {0}} (fault.PastLfd t) (none-past-tells t l) ((λ _. tt), λ _. refl) in
       ((λ e. (passes.0 e).0), λ n. passes.1 (n, tt))
 
-  counts-bad : (t : ℕ) → t < N.transitions → (why : Fault) → counts t ≡ checked.Bad why → (¬ NonePast N b t) × (why ≡ fault.PastLfd t)
+  counts-bad : (t : ℕ) → t < N.transitions → (why : Fault) → counts t ≡ Err why → (¬ NonePast N b t) × (why ≡ fault.PastLfd t)
   counts-bad t l why = fault-by (fault.PastLfd t) _ (none-past-tells t l) (λ f q. (f, q)) (λ _. never)
 
   abbrev head-is : Tells (has_head N.places N.transitions (width N) b) (StateHead N b)
   head-is = has-head-tells N.places N.transitions (width N) b
 
   -- neither 8 nor 9 is told exactly where a state of N stands at the front
-  pub state-exact : (check_state N b ≡ checked.Good) ↔ IsState N b
+  pub state-exact : (check_state N b ≡ Ok tt) ↔ IsState N b
   unfolding check_state
   state-exact =
       let passes = unless-good fault.StateFrame head-is (turn-good counts N.transitions) in (
@@ -151,7 +151,7 @@ module _ (N : Net) (b : List ℕ) where
         λ s. passes.1 (s.head, λ t l. (counts-good t l).1 (s.none_past t l)),
       )
 
-  told-state : {why : Fault} → StateFaulty N b why → check_state N b ≡ checked.Bad why
+  told-state : {why : Fault} → StateFaulty N b why → check_state N b ≡ Err why
   unfolding check_state
   told-state (StateFaulty.frame f) = fails fault.StateFrame _ head-is f
   told-state (StateFaulty.past_lfd {t} f l lower no_more) =
@@ -160,7 +160,7 @@ module _ (N : Net) (b : List ℕ) where
       (t, l, (λ u k. (counts-good u (omega arith)).1 (lower u k)), fails (fault.PastLfd t) _ (none-past-tells t l) no_more))
 
   -- and each is told exactly when document 01's table has it
-  pub state-faulty : (why : Fault) → (check_state N b ≡ checked.Bad why) ↔ StateFaulty N b why
+  pub state-faulty : (why : Fault) → (check_state N b ≡ Err why) ↔ StateFaulty N b why
   unfolding check_state
   state-faulty why = (
     fault-by fault.StateFrame _ head-is (λ a q. rw q (StateFaulty.frame a)) (λ f e.

@@ -1,10 +1,9 @@
 -- The bytes of document 01's examples, and the longest net, state and log that its limits permit.
 -- Assumes nothing.
-use Rattle.std.specs.Prelude.{◌≡◌, List, [], ◌∷◌, ◌++◌, ℕ, ◌*◌, length, replicate}
+use Rattle.std.specs.Prelude.{◌≡◌, List, [], ◌∷◌, ◌++◌, ℕ, ◌*◌, length, replicate, Ok, Err}
 use Rattle.model.specs.Net.{Net, initial_state}
 use Rattle.model.specs.Cases.{childrens_row, log}
 use Rattle.forms.specs.declared.fault.Fault.TheVariants as fault
-use Rattle.forms.specs.declared.fault.Checked.TheVariants as checked
 use Rattle.forms.specs.Stored.{log_events}
 use Rattle.forms.specs.Listed.{net_bytes, state_bytes, log_bytes}
 use Rattle.forms.specs.Nets.{check_net}
@@ -28,14 +27,14 @@ row_log = 0x01 ∷ 0x00 ∷ 0x00 ∷ 0x00 ∷ 0x0F ∷ 0x01 ∷ 0x00 ∷ 0x00 �
 
 pub record DocumentBytes : Type 0 where
   pub net : row_net ≡ net_bytes childrens_row
-  pub net_good : check_net row_net ≡ checked.Good
+  pub net_good : check_net row_net ≡ Ok tt
   pub state : row_state ≡ state_bytes childrens_row (initial_state childrens_row)
-  pub log_good : check_log row_log ≡ checked.Good
+  pub log_good : check_log row_log ≡ Ok tt
   pub events : log_events row_log ≡ log
   -- lengths 0 and 6 as a net; a log of 5 bytes
-  pub no_net : check_net [] ≡ checked.Bad fault.NetFrame
-  pub short_net : check_net (0x01 ∷ 0x00 ∷ 0x00 ∷ 0x00 ∷ 0x06 ∷ 0x01 ∷ []) ≡ checked.Bad fault.NetFrame
-  pub empty-log : check_log (0x01 ∷ 0x00 ∷ 0x00 ∷ 0x00 ∷ 0x05 ∷ []) ≡ checked.Good
+  pub no_net : check_net [] ≡ Err fault.NetFrame
+  pub short_net : check_net (0x01 ∷ 0x00 ∷ 0x00 ∷ 0x00 ∷ 0x06 ∷ 0x01 ∷ []) ≡ Err fault.NetFrame
+  pub empty-log : check_log (0x01 ∷ 0x00 ∷ 0x00 ∷ 0x00 ∷ 0x05 ∷ []) ≡ Ok tt
 
 -- THE LONGEST
 
@@ -57,9 +56,9 @@ tick_log n = log_bytes (replicate (2 * n) 0)
 
 pub record LongestAccepted : Type 0 where
   pub net-length : length (net_bytes longest) ≡ 8455
-  pub net_good : check_net (net_bytes longest) ≡ checked.Good
+  pub net_good : check_net (net_bytes longest) ≡ Ok tt
   pub state-length : length (state_bytes longest (initial_state longest)) ≡ 8328
-  pub state_good : check_state longest (state_bytes longest (initial_state longest)) ≡ checked.Good
+  pub state_good : check_state longest (state_bytes longest (initial_state longest)) ≡ Ok tt
   pub log-length : length (tick_log 24000) ≡ 48005
-  pub log_good : check_log (tick_log 24000) ≡ checked.Good
-  pub log_bad : check_log (tick_log 24001) ≡ checked.Bad fault.LogFrame
+  pub log_good : check_log (tick_log 24000) ≡ Ok tt
+  pub log_bad : check_log (tick_log 24001) ≡ Err fault.LogFrame

@@ -1,10 +1,12 @@
 -- What a check answers: document 01's number and index for every case, and checks one after the other.
 -- Assumes nothing.
-use Rattle.std.specs.Prelude.{Bool, cond, ℕ, zero, suc}
+use Rattle.std.specs.Prelude.{Bool, cond, ℕ, zero, suc, Result, Ok, Err, ⊤}
 use Rattle.forms.specs.declared.fault.Fault.{Fault}
 use Rattle.forms.specs.declared.fault.Fault.TheVariants as fault
-use Rattle.forms.specs.declared.fault.Checked.{Checked}
-use Rattle.forms.specs.declared.fault.Checked.TheVariants as checked
+
+-- what a check answers: nothing is wrong, or the fault
+abbrev pub Checked : Type 0
+Checked = Result ⊤ Fault
 
 abbrev pub number_of_fault : Fault → ℕ
 number_of_fault fault.NetFrame = 1
@@ -32,23 +34,23 @@ index_of_fault (fault.PastLfd t) = t
 index_of_fault fault.LogFrame = 0
 
 abbrev pub number_of : Checked → ℕ
-number_of checked.Good = 0
-number_of (checked.Bad why) = number_of_fault why
+number_of (Ok tt) = 0
+number_of (Err why) = number_of_fault why
 
 abbrev pub index_of : Checked → ℕ
-index_of checked.Good = 0
-index_of (checked.Bad why) = index_of_fault why
+index_of (Ok tt) = 0
+index_of (Err why) = index_of_fault why
 
 -- where the test fails the fault is told, and else what follows
 abbrev pub unless : Bool → Fault → Checked → Checked
-unless b why rest = cond b rest (checked.Bad why)
+unless b why rest = cond b rest (Err why)
 
 -- the first of the two that is bad
 abbrev pub and_then : Checked → Checked → Checked
-and_then checked.Good rest = rest
-and_then (checked.Bad why) rest = checked.Bad why
+and_then (Ok tt) rest = rest
+and_then (Err why) rest = Err why
 
 -- the first of the n checks from number i on that is bad
 unfoldable pub in_turn : (ℕ → Checked) → ℕ → ℕ → Checked
-in_turn check i zero = checked.Good
+in_turn check i zero = Ok tt
 in_turn check i (suc n) = and_then (check i) (in_turn check (suc i) n)

@@ -1,13 +1,11 @@
 -- Each number of document 01 from 1 to 10, with its index, told of bytes that a reader can compare with the document: the bytes of the
 -- children's row net, its initial state and its log, with one byte or two changed.
 -- Assumes nothing.
-use Rattle.std.specs.Prelude.{◌≡◌, [], ◌∷◌, ◌++◌, ℕ, set, take}
+use Rattle.std.specs.Prelude.{◌≡◌, [], ◌∷◌, ◌++◌, ℕ, set, take, Err}
 use Rattle.model.specs.Cases.{childrens_row}
 use Rattle.forms.specs.declared.fault.Fault.{Fault}
 use Rattle.forms.specs.declared.fault.Fault.TheVariants as fault
-use Rattle.forms.specs.declared.fault.Checked.{Checked}
-use Rattle.forms.specs.declared.fault.Checked.TheVariants as checked
-use Rattle.forms.specs.Checked.{number_of, index_of}
+use Rattle.forms.specs.Checked.{Checked, number_of, index_of}
 use Rattle.forms.specs.Stored.{state_of}
 use Rattle.forms.specs.Written.{check_room}
 use Rattle.forms.specs.Nets.{check_net}
@@ -20,7 +18,7 @@ abbrev pub Answers : Checked → ℕ → ℕ → Type 0
 Answers answer number index = (number_of answer ≡ number) × (index_of answer ≡ index)
 
 abbrev pub Faulted : Fault → ℕ → ℕ → Type 0
-Faulted why number index = Answers (checked.Bad why) number index
+Faulted why number index = Answers (Err why) number index
 
 -- every fault, with document 01's number and index
 pub record FaultNumbers : Type 0 where

@@ -1,9 +1,8 @@
 -- What the functions behind the checks ask of their callers, and what the checks give: bytes in their frame.
 -- Assumes nothing.
-use Rattle.std.specs.Prelude.{◌≡◌, List, ◌++◌, ℕ, length, drop}
+use Rattle.std.specs.Prelude.{◌≡◌, List, ◌++◌, ℕ, length, drop, Ok}
 use Rattle.model.specs.declared.net.Net.{Net as Shape}
 use Rattle.model.specs.Net.{Net, Accepted, IsWidth, Lawful, width, initial_state}
-use Rattle.forms.specs.declared.fault.Checked.TheVariants as checked
 use Rattle.forms.specs.Places.{image_length, log_length}
 use Rattle.forms.specs.Stored.{net_of, state_of, stored, log_events}
 use Rattle.forms.specs.Listed.{state_bytes}
@@ -42,5 +41,5 @@ pub record FramedLog (log : List ℕ) : Type 0 where
 -- b' is b with the whole image of the net's initial state at its front: it is accepted, and reads as that state
 pub record Began (net : List ℕ) (b b' : List ℕ) : Type 0 where
   pub whole : b' ≡ state_bytes (net_of net) (initial_state (net_of net)) ++ drop (image_length (net_of net)) b
-  pub accepted : check_state (net_of net) b' ≡ checked.Good
+  pub accepted : check_state (net_of net) b' ≡ Ok tt
   pub reads : state_of (net_of net) b' ≡ initial_state (net_of net)

@@ -1,14 +1,12 @@
 -- When a slice is a net: document 01's numbers 1 to 6, as relations 'given exactly when' and as a function that computes.
 -- Assumes nothing.
-use Rattle.std.specs.Prelude.{◌≡◌, Bool, ◌&&◌, not, List, ℕ, ◌<◌, ◌≤◌, leb, eqb, length}
+use Rattle.std.specs.Prelude.{◌≡◌, Bool, ◌&&◌, not, List, ℕ, ◌<◌, ◌≤◌, leb, eqb, length, Ok}
 use Rattle.model.specs.Tab.{all}
 use Rattle.model.specs.Limits.{Sized, is_sized, IsInterval, is_interval}
 use Rattle.model.specs.Net.{Net, HasInput, HasOutput}
 use Rattle.forms.specs.declared.fault.Fault.{Fault}
 use Rattle.forms.specs.declared.fault.Fault.TheVariants as fault
-use Rattle.forms.specs.declared.fault.Checked.{Checked}
-use Rattle.forms.specs.declared.fault.Checked.TheVariants as checked
-use Rattle.forms.specs.Checked.{unless, in_turn}
+use Rattle.forms.specs.Checked.{Checked, unless, in_turn}
 use Rattle.forms.specs.Word.{byte}
 use Rattle.forms.specs.Begins.{Begins, begins_with}
 use Rattle.forms.specs.Places.{net_length}
@@ -63,7 +61,7 @@ unfoldable pub check_row : Net → ℕ → Checked
 check_row N t =
     unless (is_interval (N.sfd t) (N.lfd t)) (fault.NoInterval t)
     (unless (has_some_weight N.places (N.takes t)) (fault.NoInput t)
-    (unless (has_some_weight N.places (N.gives t)) (fault.NoOutput t) checked.Good))
+    (unless (has_some_weight N.places (N.gives t)) (fault.NoOutput t) (Ok tt)))
 
 unfoldable pub check_net : List ℕ → Checked
 check_net b =

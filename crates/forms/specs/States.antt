@@ -1,13 +1,11 @@
 -- When the front of a buffer is a state of a net: document 01's numbers 8 and 9.
 -- Assumes nothing.
-use Rattle.std.specs.Prelude.{◌≡◌, Bool, ◌&&◌, List, ℕ, suc, ◌-◌, ◌<◌, ◌≤◌, leb, eqb, length}
+use Rattle.std.specs.Prelude.{◌≡◌, Bool, ◌&&◌, List, ℕ, suc, ◌-◌, ◌<◌, ◌≤◌, leb, eqb, length, Ok}
 use Rattle.model.specs.Age.{column_of}
 use Rattle.model.specs.Net.{Net, width}
 use Rattle.forms.specs.declared.fault.Fault.{Fault}
 use Rattle.forms.specs.declared.fault.Fault.TheVariants as fault
-use Rattle.forms.specs.declared.fault.Checked.{Checked}
-use Rattle.forms.specs.declared.fault.Checked.TheVariants as checked
-use Rattle.forms.specs.Checked.{unless, in_turn}
+use Rattle.forms.specs.Checked.{Checked, unless, in_turn}
 use Rattle.forms.specs.Word.{byte, is_blank}
 use Rattle.forms.specs.Begins.{Begins, begins_with}
 use Rattle.forms.specs.Stored.{stored_count}
@@ -53,7 +51,7 @@ has_none_past N b t =
     is_blank b (count_at N.places (width N) t (column_of (record { 0 = suc (N.lfd t) }))) (width N - suc (N.lfd t))
 
 abbrev pub check_counts : Net → List ℕ → ℕ → Checked
-check_counts N b t = unless (has_none_past N b t) (fault.PastLfd t) checked.Good
+check_counts N b t = unless (has_none_past N b t) (fault.PastLfd t) (Ok tt)
 
 unfoldable pub check_state : Net → List ℕ → Checked
 check_state N b =

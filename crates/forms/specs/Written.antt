@@ -1,11 +1,9 @@
 -- A state written over the front of a buffer. The head of 8 bytes and the bytes behind the image stay.
 -- Assumes nothing.
-use Rattle.std.specs.Prelude.{Bool, cond, List, ℕ, leb, length, set}
+use Rattle.std.specs.Prelude.{Bool, cond, List, ℕ, leb, length, set, Ok}
 use Rattle.model.specs.Net.{Net, State, width, tokens, count, initial_state}
 use Rattle.forms.specs.declared.fault.Fault.TheVariants as fault
-use Rattle.forms.specs.declared.fault.Checked.{Checked}
-use Rattle.forms.specs.declared.fault.Checked.TheVariants as checked
-use Rattle.forms.specs.Checked.{unless}
+use Rattle.forms.specs.Checked.{Checked, unless}
 use Rattle.forms.specs.Word.{set_word32, put_words, put_rows}
 use Rattle.forms.specs.Begins.{version}
 use Rattle.forms.specs.Places.{clock_at, state_length, image_length}
@@ -27,7 +25,7 @@ leaves_room N b = leb (image_length N) (length b)
 
 -- 7: the buffer is shorter than the image
 unfoldable pub check_room : Net → List ℕ → Checked
-check_room N b = unless (leaves_room N b) fault.NoRoom checked.Good
+check_room N b = unless (leaves_room N b) fault.NoRoom (Ok tt)
 
 -- the buffer after the initial state was asked for: its image, where there is room
 unfoldable pub after_initial : Net → List ℕ → List ℕ

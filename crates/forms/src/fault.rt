@@ -25,11 +25,12 @@ pub enum Fault {
     LogFrame,
 }
 
-impl Fault {
-    pub fn number(self) -> u8
-        ensures { result ≡ number_of_fault self }
-    {
-        match self {
+// Document 01's number.
+impl From<Fault> for u8 {
+    ghost from_gives = { λ fault number. number ≡ number_of_fault fault };
+
+    fn from(fault: Fault) -> u8 {
+        match fault {
             Fault::NetFrame => 1,
             Fault::NetSize => 2,
             Fault::NetLength => 3,
@@ -42,7 +43,10 @@ impl Fault {
             Fault::LogFrame => 10,
         }
     }
+}
 
+impl Fault {
+    // The transition at fault, where one is told.
     pub fn index(self) -> usize
         ensures { result ≡ index_of_fault self }
     {
@@ -61,29 +65,22 @@ impl Fault {
     }
 }
 
-// What a check answers.
-#[derive(Clone, Copy)]
-pub enum Checked {
-    Good,
-    Bad(Fault),
+// The number that a check tells: 0 where nothing is wrong.
+pub fn number(checked: Result<(), Fault>) -> u8
+    ensures { result ≡ number_of checked }
+{
+    match checked {
+        Ok(()) => 0,
+        Err(fault) => u8::from(fault),
+    }
 }
 
-impl Checked {
-    pub fn number(self) -> u8
-        ensures { result ≡ number_of self }
-    {
-        match self {
-            Checked::Good => 0,
-            Checked::Bad(fault) => fault.number(),
-        }
-    }
-
-    pub fn index(self) -> usize
-        ensures { result ≡ index_of self }
-    {
-        match self {
-            Checked::Good => 0,
-            Checked::Bad(fault) => fault.index(),
-        }
+// And the index that it tells.
+pub fn index(checked: Result<(), Fault>) -> usize
+    ensures { result ≡ index_of checked }
+{
+    match checked {
+        Ok(()) => 0,
+        Err(fault) => fault.index(),
     }
 }

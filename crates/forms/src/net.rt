@@ -7,7 +7,7 @@ ghost use Rattle.forms.specs.Nets.{IsNet, has_net_head, has_some_weight, check_r
 ghost use Rattle.forms.specs.Checked.{in_turn};
 ghost use Rattle.forms.specs.Frame.{HasShape};
 
-use crate::fault::{Checked, Fault};
+use crate::fault::Fault;
 use crate::{begins, places, words};
 use model::net::Net;
 
@@ -37,7 +37,7 @@ fn some_weight(net: &[u8], from: usize, n: usize) -> bool
 }
 
 // Transition t: its interval, its input weights, its output weights.
-fn check_row(net: &[u8], t: usize) -> Checked
+fn check_row(net: &[u8], t: usize) -> Result<(), Fault>
     requires { (7 ≤ length net.now) × (t < 256) × (row_at (byte net.now 5) t + row_length (byte net.now 5) ≤ length net.now) }
     ensures { result ≡ check_row (net_of net.now) t }
 {
@@ -45,32 +45,27 @@ fn check_row(net: &[u8], t: usize) -> Checked
     let sfd = words::wide(net[places::row_at(places, t)]);
     let lfd = words::wide(net[places::lfd_at(places, t)]);
     if !Net::is_interval(sfd, lfd) {
-        return Checked::Bad(Fault::NoInterval(t));
+        return Err(Fault::NoInterval(t));
     }
     if !some_weight(net, places::inputs_at(places, t), places) {
-        return Checked::Bad(Fault::NoInput(t));
+        return Err(Fault::NoInput(t));
     }
     if !some_weight(net, places::outputs_at(places, t), places) {
-        return Checked::Bad(Fault::NoOutput(t));
+        return Err(Fault::NoOutput(t));
     }
-    Checked::Good
+    Ok(())
 }
 
 // The transitions in turn, from the lowest.
-fn check_rows(net: &[u8]) -> Checked
+fn check_rows(net: &[u8]) -> Result<(), Fault>
     requires { (7 ≤ length net.now) × (row_at (byte net.now 5) (byte net.now 6) ≤ length net.now) }
     ensures { result ≡ in_turn (check_row (net_of net.now)) 0 (byte net.now 6) }
 {
     let transitions = words::wide(net[places::TRANSITIONS_AT]);
-    let mut t = 0;
-    while t < transitions {
-        let answer = check_row(net, t);
-        let Checked::Good = answer else {
-            return answer;
-        };
-        t += 1;
+    for t in 0..transitions {
+        check_row(net, t)?;
     }
-    Checked::Good
+    Ok(())
 }
 
 // The shortest duration of transition t of a checked net.
@@ -109,19 +104,19 @@ pub fn shape_of(net: &[u8]) -> Net
 }
 
 // Checks the bytes of a net.
-pub fn check_net(net: &[u8]) -> Checked
+pub fn check_net(net: &[u8]) -> Result<(), Fault>
     ensures { result ≡ check_net net.now }
 {
     if !has_head(net) {
-        return Checked::Bad(Fault::NetFrame);
+        return Err(Fault::NetFrame);
     }
     let places = words::wide(net[places::PLACES_AT]);
     let transitions = words::wide(net[places::TRANSITIONS_AT]);
     if !Net::sized(places, transitions) {
-        return Checked::Bad(Fault::NetSize);
+        return Err(Fault::NetSize);
     }
     if net.len() != places::row_at(places, transitions) {
-        return Checked::Bad(Fault::NetLength);
+        return Err(Fault::NetLength);
     }
     check_rows(net)
 }

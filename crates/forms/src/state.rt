@@ -6,7 +6,7 @@ ghost use Rattle.forms.specs.Stored.{net_of};
 ghost use Rattle.forms.specs.States.{StateHead, has_head, check_counts, check_state};
 ghost use Rattle.forms.specs.Frame.{FramedNet};
 
-use crate::fault::{Checked, Fault};
+use crate::fault::Fault;
 use crate::{begins, net, places, words};
 use model::age::Age;
 use model::net::Net;
@@ -36,7 +36,7 @@ fn has_head(shape: Net, state: &[u8]) -> bool
 }
 
 // Transition t: no count stands at an age above its lfd.
-fn check_counts(net: &[u8], shape: Net, state: &[u8], t: usize) -> Checked
+fn check_counts(net: &[u8], shape: Net, state: &[u8], t: usize) -> Result<(), Fault>
     requires framed_net { FramedNet net.now shape }
     requires state_head { StateHead (net_of net.now) state.now × (t < byte net.now 6) }
     ensures { result ≡ check_counts (net_of net.now) state.now t }
@@ -44,36 +44,30 @@ fn check_counts(net: &[u8], shape: Net, state: &[u8], t: usize) -> Checked
     let above = net::lfd(net, t) + 1;
     let at = places::count_at(shape, t, Age(above as u8).column());
     if !words::blank(state, at, shape.width - above) {
-        return Checked::Bad(Fault::PastLfd(t));
+        return Err(Fault::PastLfd(t));
     }
-    Checked::Good
+    Ok(())
 }
 
 // The transitions in turn, from the lowest.
-fn check_all_counts(net: &[u8], shape: Net, state: &[u8]) -> Checked
+fn check_all_counts(net: &[u8], shape: Net, state: &[u8]) -> Result<(), Fault>
     requires framed_net { FramedNet net.now shape }
     requires state_head { StateHead (net_of net.now) state.now }
     ensures { result ≡ in_turn (check_counts (net_of net.now) state.now) 0 (net_of net.now).transitions }
 {
-    let transitions = shape.transitions;
-    let mut t = 0;
-    while t < transitions {
-        let counts = check_counts(net, shape, state, t);
-        let Checked::Good = counts else {
-            return counts;
-        };
-        t += 1;
+    for t in 0..shape.transitions {
+        check_counts(net, shape, state, t)?;
     }
-    Checked::Good
+    Ok(())
 }
 
 // Checks that a state of the net stands at the front of the buffer.
-pub fn check_state(net: &[u8], shape: Net, state: &[u8]) -> Checked
+pub fn check_state(net: &[u8], shape: Net, state: &[u8]) -> Result<(), Fault>
     requires { FramedNet net.now shape }
     ensures { result ≡ check_state (net_of net.now) state.now }
 {
     if !has_head(shape, state) {
-        return Checked::Bad(Fault::StateFrame);
+        return Err(Fault::StateFrame);
     }
     check_all_counts(net, shape, state)
 }

@@ -1,12 +1,8 @@
 -- `state::check_all_counts` meets its contract. The loop keeps that the transitions that are left give the answer of all.
-use Prim.Native.Nat.{◌-◌, ◌≤◌}
 use Rattle.forms.specs.Stored.{net_of}
 use Rattle.forms.specs.States.{check_counts}
 use Rattle.forms.proofs.Turns.{Left}
 use Rattle.forms.proofs.state.check_all_counts.Given as goal
 
 abbrev pub invariant-loop-t : goal.invariant-loop-t
-invariant-loop-t l = (l.t ≤ l.shape.transitions) × Left (check_counts (net_of l.net) l.state) l.shape.transitions l.t
-
-abbrev pub decreases-loop-t : goal.decreases-loop-t
-decreases-loop-t l = l.shape.transitions - l.t
+invariant-loop-t l = Left (check_counts (net_of l.net) l.state) (net_of l.net).transitions l.t
