@@ -7,7 +7,7 @@ use Prim.Native.Nat.{ℕ, suc, ◌<◌, ◌≤◌}
 use native.Mathlib.Omega.{arith}
 use Rattle.model.specs.declared.event.Event.TheVariants as event
 use Rattle.model.specs.declared.net.Net.{Net as Shape}
-use Rattle.model.specs.declared.answer.Answer.TheVariants as answer
+use Rattle.std.proofs.Common.{Ok}
 use Rattle.model.specs.Net.{Net, State, Lawful, width, count}
 use Rattle.model.specs.Moves.{NoStartOwed, NothingRunning, Ticks}
 use Rattle.model.specs.Rules.{Outcome, done, refused, answer_of, state_after}
@@ -44,7 +44,7 @@ module _ (N : Net) (S S' : State) (s : Lawful N S) (k : Ticks N S S') where
 -- ON BYTES
 
 -- an outcome by its answer
-pub done-by : (S : State) (o : Outcome) → answer_of o ≡ answer.Done → o ≡ done (state_after S o)
+pub done-by : (S : State) (o : Outcome) → answer_of o ≡ Ok tt → o ≡ done (state_after S o)
 done-by S (done S') e = refl
 done-by S (refused why) e = let z : ◌≡◌ {A = ℕ} 0 1 = cc in absurd (omega arith)
 
@@ -58,7 +58,7 @@ module _ (net : List ℕ) (shape : Shape) (b : List ℕ) (f : Framed net shape b
   lawful : Lawful (net_of net) (stored net b)
   lawful = state-lawful (net_of net) b small f.is_state
 
-  pub tick-settles : (started : Bool) → answer_of (applied net started b event.Tick) ≡ answer.Done → Settled net (after (net_of net) (applied net started b event.Tick) b)
+  pub tick-settles : (started : Bool) → answer_of (applied net started b event.Tick) ≡ Ok tt → Settled net (after (net_of net) (applied net started b event.Tick) b)
   tick-settles started said =
       let S' = state_after S₀ (applied net started b event.Tick) in
       let k = (apply-exact N₀ started S₀ event.Tick S').0 (done-by S₀ (applied net started b event.Tick) said) in
@@ -67,7 +67,7 @@ module _ (net : List ℕ) (shape : Shape) (b : List ℕ) (f : Framed net shape b
         told-false (nothing-running-tells N₀ S') (still-runs N₀ S₀ S' lawful k),
       )
 
-  pub untick-settles : (started : Bool) → answer_of (state_taken_back net started b event.Tick) ≡ answer.Done → Settled net (after (net_of net) (state_taken_back net started b event.Tick) b)
+  pub untick-settles : (started : Bool) → answer_of (state_taken_back net started b event.Tick) ≡ Ok tt → Settled net (after (net_of net) (state_taken_back net started b event.Tick) b)
   untick-settles started said =
       let S = state_after S₀ (state_taken_back net started b event.Tick) in
       let k = ((back-exact N₀ started S₀ lawful event.Tick S).0 (done-by S₀ (state_taken_back net started b event.Tick) said)).1 in

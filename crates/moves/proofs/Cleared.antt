@@ -10,7 +10,7 @@ use borrow.Author.Tests.{eqb-true}
 use Rattle.model.specs.declared.event.Event.{Event}
 use Rattle.model.specs.declared.event.Event.TheVariants as event
 use Rattle.model.specs.declared.net.Net.{Net as Shape}
-use Rattle.model.specs.declared.answer.Answer.TheVariants as answer
+use Rattle.std.proofs.Common.{Ok}
 use Rattle.model.specs.Net.{Net, State, Lawful}
 use Rattle.model.specs.Moves.{started_by, NoOldEndOwed, Moves}
 use Rattle.model.specs.Rules.{answer_of, state_after, has_no_old_end_owed}
@@ -59,7 +59,7 @@ module _ (net : List ℕ) (shape : Shape) (b : List ℕ) (f : Framed net shape b
   lawful : Lawful (net_of net) (stored net b)
   lawful = state-lawful (net_of net) b small f.is_state
 
-  pub done-clears : answer_of (applied net started b e) ≡ answer.Done → started_by clear e ≡ true
+  pub done-clears : answer_of (applied net started b e) ≡ Ok tt → started_by clear e ≡ true
       → has_no_old_end_owed (net_of net) (stored net (after (net_of net) (applied net started b e) b)) ≡ true
   done-clears said is =
       let S' = state_after S₀ (applied net started b e) in
@@ -67,7 +67,7 @@ module _ (net : List ℕ) (shape : Shape) (b : List ℕ) (f : Framed net shape b
       rw (after-stored net shape b f small started e)
       (told-true (no-old-end-owed-tells N₀ S') (settles N₀ started S₀ S' clear e m (λ c. holds (no-old-end-owed-tells N₀ S₀) (known c)) is))
 
-  pub undone-clears : answer_of (state_taken_back net started b e) ≡ answer.Done → clear_before clear e ≡ true
+  pub undone-clears : answer_of (state_taken_back net started b e) ≡ Ok tt → clear_before clear e ≡ true
       → has_no_old_end_owed (net_of net) (stored net (after (net_of net) (state_taken_back net started b e) b)) ≡ true
   undone-clears said is =
       let S = state_after S₀ (state_taken_back net started b e) in

@@ -13,7 +13,7 @@ use Rattle.model.specs.declared.net.Net.{Net as Shape}
 use Rattle.model.specs.declared.event.Event.TheVariants as event
 use Rattle.model.specs.declared.answer.Barrier.TheVariants as barrier
 use Rattle.model.specs.declared.answer.Refusal.TheVariants as refusal
-use Rattle.model.specs.declared.answer.Answer.TheVariants as answer
+use Rattle.std.proofs.Common.{Ok, Err}
 use Rattle.model.specs.Age.{column_of}
 use Rattle.model.specs.Limits.{is_held, token_limit}
 use Rattle.model.specs.Net.{count}
@@ -31,22 +31,22 @@ use Rattle.moves.proofs.Looked.{roomy-is, roomy-each}
 use Rattle.moves.proofs.Fired.{unknown-test, known-test, one_more, raised, lowered}
 
 module _ (net : List ℕ) (shape : Shape) (b : List ℕ) (f : Framed net shape b) (t : ℕ) (age : Age) where
-  pub end-unknown : shape.transitions ≤ t → Answers net b (applied net false b (event.End t age)) (answer.Refused refusal.NoSuchTransition) b
+  pub end-unknown : shape.transitions ≤ t → Answers net b (applied net false b (event.End t age)) (Err refusal.NoSuchTransition) b
   unfolding apply can_end
   end-unknown l = simp (unknown-test net shape b f t l) (refl, refl)
 
-  pub unend-unknown : shape.transitions ≤ t → Answers net b (state_taken_back net false b (event.End t age)) (answer.Refused refusal.NoSuchTransition) b
+  pub unend-unknown : shape.transitions ≤ t → Answers net b (state_taken_back net false b (event.End t age)) (Err refusal.NoSuchTransition) b
   unfolding back can_end
   unend-unknown l = simp (unknown-test net shape b f t l) (refl, refl)
 
   module _ (known : t < byte net 6) where
     pub end-untimely : is_timely (net_of net) t age.0 ≡ false
-        → Answers net b (applied net false b (event.End t age)) (answer.Refused refusal.OutsideInterval) b
+        → Answers net b (applied net false b (event.End t age)) (Err refusal.OutsideInterval) b
     unfolding apply can_end
     end-untimely late = simp (known-test net shape b f t known, late) (refl, refl)
 
     pub unend-untimely : is_timely (net_of net) t age.0 ≡ false
-        → Answers net b (state_taken_back net false b (event.End t age)) (answer.Refused refusal.OutsideInterval) b
+        → Answers net b (state_taken_back net false b (event.End t age)) (Err refusal.OutsideInterval) b
     unfolding back can_end
     unend-untimely late = simp (known-test net shape b f t known, late) (refl, refl)
 
@@ -56,7 +56,7 @@ module _ (net : List ℕ) (shape : Shape) (b : List ℕ) (f : Framed net shape b
       young = omega (arith, (holds (timely-tells (net_of net) t age.0) timely).1, lfd-young net shape b f t known)
 
       pub unend-short : does_cover (net_of net) (stored net b) ((net_of net).gives t) ≡ false
-          → Answers net b (state_taken_back net false b (event.End t age)) (answer.Refused (refusal.OnlyBack barrier.TooFewTokens)) b
+          → Answers net b (state_taken_back net false b (event.End t age)) (Err (refusal.OnlyBack barrier.TooFewTokens)) b
       unfolding back can_end
       unend-short short = simp (known-test net shape b f t known, timely, short) (refl, refl)
 
@@ -65,20 +65,20 @@ module _ (net : List ℕ) (shape : Shape) (b : List ℕ) (f : Framed net shape b
         some-run : 1 ≤ v → leb 1 (count (stored net b) t age.0) ≡ true
         some-run l = le-leb 1 (count (stored net b) t age.0) (omega (arith, stands))
 
-        pub end_none : v ≡ 0 → Answers net b (applied net false b (event.End t age)) (answer.Refused refusal.NoneOfThatAge) b
+        pub end_none : v ≡ 0 → Answers net b (applied net false b (event.End t age)) (Err refusal.NoneOfThatAge) b
         unfolding apply can_end
         end_none z =
             simp (known-test net shape b f t known, timely, lt-leb 1 (count (stored net b) t age.0) (omega (arith, stands))) (refl, refl)
 
         pub unend-full : does_cover (net_of net) (stored net b) ((net_of net).gives t) ≡ true → is_held (v + 1) ≡ false
-            → Answers net b (state_taken_back net false b (event.End t age)) (answer.Refused (refusal.OnlyBack barrier.CountOverfull)) b
+            → Answers net b (state_taken_back net false b (event.End t age)) (Err (refusal.OnlyBack barrier.CountOverfull)) b
         unfolding back can_end
         unend-full covered full = simp (known-test net shape b f t known, timely, covered, one_more stands full) (refl, refl)
 
         -- `from` is where the code found the weights
         module _ (from : ℕ) (right : (p : ℕ) → byte net (from + p) ≡ (net_of net).gives t p) where
           pub end-full : 1 ≤ v → is_roomy net from b shape.places ≡ false
-              → Answers net b (applied net false b (event.End t age)) (answer.Refused refusal.PlaceFull) b
+              → Answers net b (applied net false b (event.End t age)) (Err refusal.PlaceFull) b
           unfolding apply can_end
           end-full l full =
               simp (
@@ -93,7 +93,7 @@ module _ (net : List ℕ) (shape : Shape) (b : List ℕ) (f : Framed net shape b
               (place : at ≡ count_at shape.places shape.width t c) (x y : List ℕ) where
             pub end-done : 1 ≤ v → v < 65536 → is_roomy net from b shape.places ≡ true
                 → x ≡ put_words (mark_at 0) shape.places (after_giving net from b) b → y ≡ set_word x at (v - 1)
-                → Answers net b (applied net false b (event.End t age)) answer.Done y
+                → Answers net b (applied net false b (event.End t age)) (Ok tt) y
             unfolding apply can_end ended
             end-done l fits roomy ex ey =
                 simp (
@@ -109,7 +109,7 @@ module _ (net : List ℕ) (shape : Shape) (b : List ℕ) (f : Framed net shape b
 
             pub unend-done : does_cover (net_of net) (stored net b) ((net_of net).gives t) ≡ true → is_held (v + 1) ≡ true
                 → x ≡ put_words (mark_at 0) shape.places (after_taking net from b) b → y ≡ set_word x at (v + 1)
-                → Answers net b (state_taken_back net false b (event.End t age)) answer.Done y
+                → Answers net b (state_taken_back net false b (event.End t age)) (Ok tt) y
             unfolding back can_end unended
             unend-done covered free ex ey =
                 simp (known-test net shape b f t known, timely, covered, one_more stands free) (

@@ -11,7 +11,7 @@ use Rattle.model.specs.declared.event.Event.TheVariants as event
 use Rattle.model.specs.declared.net.Net.{Net as Shape}
 use Rattle.model.specs.declared.answer.Refusal.{Refusal}
 use Rattle.model.specs.declared.answer.Refusal.TheVariants as refusal
-use Rattle.model.specs.declared.answer.Answer.TheVariants as answer
+use Rattle.std.proofs.Common.{Err}
 use Rattle.model.specs.Net.{Net, State}
 use Rattle.model.specs.Rules.{refused, is_timely, can_end, apply, back}
 use Rattle.forms.specs.Word.{byte}
@@ -87,8 +87,8 @@ module _ (net : List ℕ) (shape : Shape) (f : FramedNet net shape) (t : ℕ) (a
 
 -- what it comes to where the code returns it, of an end done and of one taken back
 module _ (net b : List ℕ) (started : Bool) (t : ℕ) (age : Age) (late : can_end started age.0 ≡ false) (why : Refusal) (is : TooLate (net_of net) t age why) where
-  pub end-too-late : Answers net b (apply (net_of net) started (stored net b) (event.End t age)) (answer.Refused why) b
+  pub end-too-late : Answers net b (apply (net_of net) started (stored net b) (event.End t age)) (Err why) b
   end-too-late = rw ((behind-start started age.0 late).0, (is (stored net b)).0) (refl, refl)
 
-  pub unend-too-late : Answers net b (back (net_of net) started (stored net b) (event.End t age)) (answer.Refused why) b
+  pub unend-too-late : Answers net b (back (net_of net) started (stored net b) (event.End t age)) (Err why) b
   unend-too-late = rw ((behind-start started age.0 late).0, (is (stored net b)).1) (refl, refl)

@@ -10,7 +10,7 @@ use borrow.Author.Tests.{eq-eqb, ne_eqb}
 use Rattle.model.specs.declared.age.Column.{Column}
 use Rattle.model.specs.declared.net.Net.{Net as Shape}
 use Rattle.model.specs.declared.answer.Short.{Short}
-use Rattle.model.specs.declared.answer.Answer.TheVariants as answer
+use Rattle.std.proofs.Common.{Ok, Err}
 use Rattle.model.specs.declared.answer.Barrier.TheVariants as barrier
 use Rattle.model.specs.declared.answer.Refusal.TheVariants as refusal
 use Rattle.model.specs.declared.event.Event.TheVariants as event
@@ -35,11 +35,11 @@ use Rattle.moves.proofs.Looked.{roomy-is, roomy-each}
 use Rattle.moves.proofs.Fired.{raised, lowered, unknown-test, known-test, one_more}
 
 module _ (net : List ℕ) (shape : Shape) (b : List ℕ) (f : Framed net shape b) (t : ℕ) where
-  pub start-unknown : shape.transitions ≤ t → Answers net b (applied net false b (event.Start t)) (answer.Refused refusal.NoSuchTransition) b
+  pub start-unknown : shape.transitions ≤ t → Answers net b (applied net false b (event.Start t)) (Err refusal.NoSuchTransition) b
   unfolding apply
   start-unknown l = simp (unknown-test net shape b f t l) (refl, refl)
 
-  pub unstart-unknown : shape.transitions ≤ t → Answers net b (state_taken_back net false b (event.Start t)) (answer.Refused refusal.NoSuchTransition) b
+  pub unstart-unknown : shape.transitions ≤ t → Answers net b (state_taken_back net false b (event.Start t)) (Err refusal.NoSuchTransition) b
   unfolding back
   unstart-unknown l = simp (unknown-test net shape b f t l) (refl, refl)
 
@@ -78,14 +78,14 @@ module _ (net : List ℕ) (shape : Shape) (b : List ℕ) (f : Framed net shape b
     -- the code found place p, and what it lacks
     pub start-disabled : (p : ℕ) → p ≡ lacking_place (net_of net) (stored net b) t → p < shape.places
         → (s : Short) → s ≡ short (net_of net) (stored net b) t
-        → Answers net b (applied net false b (event.Start t)) (answer.Refused (refusal.NotEnabled s)) b
+        → Answers net b (applied net false b (event.Start t)) (Err (refusal.NotEnabled s)) b
     unfolding apply
     start-disabled p found l s is = simp (known-test net shape b f t known, unable p found l, is) (refl, refl)
 
     -- it found none, but an end of age 1 or more is owed
     pub start-too-soon : (p : ℕ) → p ≡ lacking_place (net_of net) (stored net b) t → shape.places ≤ p
         → has_no_old_end_owed (net_of net) (stored net b) ≡ false
-        → Answers net b (applied net false b (event.Start t)) (answer.Refused refusal.OldEndOwed) b
+        → Answers net b (applied net false b (event.Start t)) (Err refusal.OldEndOwed) b
     unfolding apply
     start-too-soon p found u owed = simp (known-test net shape b f t known, able p found u, owed) (refl, refl)
 
@@ -103,19 +103,19 @@ module _ (net : List ℕ) (shape : Shape) (b : List ℕ) (f : Framed net shape b
       some : ¬ (v ≡ 0) → leb 1 (count (stored net b) t 0) ≡ true
       some s = told-true (leb_tells 1 (count (stored net b) t 0)) (omega (arith, stands, s))
 
-      pub unstart-none : v ≡ 0 → Answers net b (state_taken_back net false b (event.Start t)) (answer.Refused (refusal.OnlyBack barrier.NoneStarted)) b
+      pub unstart-none : v ≡ 0 → Answers net b (state_taken_back net false b (event.Start t)) (Err (refusal.OnlyBack barrier.NoneStarted)) b
       unfolding back
       unstart-none z = simp (known-test net shape b f t known, told-false (leb_tells 1 (count (stored net b) t 0)) (λ h. omega (arith, stands))) (refl, refl)
 
       -- `from`, where the weights stand; `room`, that every place has room for its weight
       module _ (s : ¬ (v ≡ 0)) (from : ℕ) (e : from ≡ inputs_at shape.places t) (room : Bool) (tested : room ≡ is_roomy net from b shape.places) where
-        pub unstart-no-room : room ≡ false → Answers net b (state_taken_back net false b (event.Start t)) (answer.Refused (refusal.OnlyBack barrier.PlaceOverfull)) b
+        pub unstart-no-room : room ≡ false → Answers net b (state_taken_back net false b (event.Start t)) (Err (refusal.OnlyBack barrier.PlaceOverfull)) b
         unfolding back
         unstart-no-room full = simp (known-test net shape b f t known, some s, sym (room_is from e) ∙ failed tested full) (refl, refl)
 
         -- 25 does not stand in the way, and 29 does
         pub unstart-too-soon : room ≡ true → has_no_old_end_owed (net_of net) (stored net b) ≡ false
-            → Answers net b (state_taken_back net false b (event.Start t)) (answer.Refused refusal.OldEndOwed) b
+            → Answers net b (state_taken_back net false b (event.Start t)) (Err refusal.OldEndOwed) b
         unfolding back
         unstart-too-soon free owed = simp (known-test net shape b f t known, some s, sym (room_is from e) ∙ passed tested free, owed) (refl, refl)
 
@@ -123,7 +123,7 @@ module _ (net : List ℕ) (shape : Shape) (b : List ℕ) (f : Framed net shape b
         pub unstart-done : room ≡ true → has_no_old_end_owed (net_of net) (stored net b) ≡ true → Bytes b → v < 65536
             → (c : Column) (at : ℕ) → c ≡ column_of (record { 0 = 0 }) → at ≡ count_at shape.places shape.width t c
             → (x y : List ℕ) → x ≡ put_words (mark_at 0) shape.places (after_giving net from b) b → y ≡ set_word x at (v - 1)
-            → Answers net b (state_taken_back net false b (event.Start t)) answer.Done y
+            → Answers net b (state_taken_back net false b (event.Start t)) (Ok tt) y
         unfolding back unstarted
         unstart-done free none_old small fits c at column place x y ex ey =
             simp (known-test net shape b f t known, some s, sym (room_is from e) ∙ passed tested free, none_old) (
@@ -134,14 +134,14 @@ module _ (net : List ℕ) (shape : Shape) (b : List ℕ) (f : Framed net shape b
 
       -- the code found no place; `free`, that the count may go up
       module _ (p : ℕ) (found : p ≡ lacking_place (net_of net) (stored net b) t) (none : shape.places ≤ p) (free : Bool) (room : free ≡ is_held (v + 1)) where
-        pub start-full : has_no_old_end_owed (net_of net) (stored net b) ≡ true → free ≡ false → Answers net b (applied net false b (event.Start t)) (answer.Refused refusal.CountFull) b
+        pub start-full : has_no_old_end_owed (net_of net) (stored net b) ≡ true → free ≡ false → Answers net b (applied net false b (event.Start t)) (Err refusal.CountFull) b
         unfolding apply
         start-full none_old full = simp (known-test net shape b f t known, able p found none, none_old, one_more stands (failed room full)) (refl, refl)
 
         pub start-done : has_no_old_end_owed (net_of net) (stored net b) ≡ true → free ≡ true → Bytes b → (from : ℕ) → from ≡ inputs_at shape.places t
             → (c : Column) (at : ℕ) → c ≡ column_of (record { 0 = 0 }) → at ≡ count_at shape.places shape.width t c
             → (x y : List ℕ) → x ≡ put_words (mark_at 0) shape.places (after_taking net from b) b → y ≡ set_word x at (v + 1)
-            → Answers net b (applied net false b (event.Start t)) answer.Done y
+            → Answers net b (applied net false b (event.Start t)) (Ok tt) y
         unfolding apply started
         start-done none_old held small from e c at column place x y ex ey =
             simp (known-test net shape b f t known, able p found none, none_old, one_more stands (passed room held)) (

@@ -9,7 +9,7 @@ use native.Mathlib.Nat.{mul-le-mul, mul-le-mul_right}
 use native.Mathlib.Omega.{arith}
 use borrow.Author.Tests.{lt-ltb, le-ltb}
 use lib.ListN.{length}
-use Rattle.model.specs.declared.answer.Answer.TheVariants as answer
+use Rattle.std.proofs.Common.{Ok, Err}
 use Rattle.model.specs.declared.answer.Barrier.TheVariants as barrier
 use Rattle.model.specs.declared.answer.Refusal.TheVariants as refusal
 use Rattle.model.specs.declared.event.Event.TheVariants as event
@@ -159,40 +159,40 @@ module _ (net b : List ℕ) where
   abbrev S₀ : State
   S₀ = stored net b
 
-  pub tick-start-owed : has_no_start_owed N₀ S₀ ≡ false → Answers net b (applied net false b event.Tick) (answer.Refused refusal.StartOwed) b
+  pub tick-start-owed : has_no_start_owed N₀ S₀ ≡ false → Answers net b (applied net false b event.Tick) (Err refusal.StartOwed) b
   unfolding apply
   tick-start-owed owed = simp owed (refl, refl)
 
-  pub untick-fresh : has_none_fresh N₀ S₀ ≡ false → Answers net b (state_taken_back net false b event.Tick) (answer.Refused (refusal.OnlyBack barrier.SomeFresh)) b
+  pub untick-fresh : has_none_fresh N₀ S₀ ≡ false → Answers net b (state_taken_back net false b event.Tick) (Err (refusal.OnlyBack barrier.SomeFresh)) b
   unfolding back
   untick-fresh fresh = simp fresh (refl, refl)
 
   module _ (calm : has_no_start_owed N₀ S₀ ≡ true) where
-    pub tick-end-owed : has_no_end_owed N₀ S₀ ≡ false → Answers net b (applied net false b event.Tick) (answer.Refused refusal.EndOwed) b
+    pub tick-end-owed : has_no_end_owed N₀ S₀ ≡ false → Answers net b (applied net false b event.Tick) (Err refusal.EndOwed) b
     unfolding apply
     tick-end-owed owed = simp (calm, owed) (refl, refl)
 
     module _ (none : has_no_end_owed N₀ S₀ ≡ true) where
-      pub tick-rest : has_nothing_running N₀ S₀ ≡ true → Answers net b (applied net false b event.Tick) (answer.Refused refusal.NothingRunning) b
+      pub tick-rest : has_nothing_running N₀ S₀ ≡ true → Answers net b (applied net false b event.Tick) (Err refusal.NothingRunning) b
       unfolding apply
       tick-rest rest = simp (calm, none, rest) (refl, refl)
 
       pub tick-done : has_nothing_running N₀ S₀ ≡ false → (b' : List ℕ) → b' ≡ written N₀ (ticked N₀ S₀) b
-          → Answers net b (applied net false b event.Tick) answer.Done b'
+          → Answers net b (applied net false b event.Tick) (Ok tt) b'
       unfolding apply
       tick-done runs b' e = simp (calm, none, runs) (refl, e)
 
   module _ (none : has_none_fresh N₀ S₀ ≡ true) where
-    pub untick-start-owed : has_no_start_owed N₀ S₀ ≡ false → Answers net b (state_taken_back net false b event.Tick) (answer.Refused refusal.StartOwed) b
+    pub untick-start-owed : has_no_start_owed N₀ S₀ ≡ false → Answers net b (state_taken_back net false b event.Tick) (Err refusal.StartOwed) b
     unfolding back
     untick-start-owed owed = simp (none, owed) (refl, refl)
 
     module _ (calm : has_no_start_owed N₀ S₀ ≡ true) where
-      pub untick-rest : has_nothing_running N₀ S₀ ≡ true → Answers net b (state_taken_back net false b event.Tick) (answer.Refused refusal.NothingRunning) b
+      pub untick-rest : has_nothing_running N₀ S₀ ≡ true → Answers net b (state_taken_back net false b event.Tick) (Err refusal.NothingRunning) b
       unfolding back
       untick-rest rest = simp (none, calm, rest) (refl, refl)
 
       pub untick-done : has_nothing_running N₀ S₀ ≡ false → (b' : List ℕ) → b' ≡ written N₀ (unticked N₀ S₀) b
-          → Answers net b (state_taken_back net false b event.Tick) answer.Done b'
+          → Answers net b (state_taken_back net false b event.Tick) (Ok tt) b'
       unfolding back
       untick-done runs b' e = simp (none, calm, runs) (refl, e)

@@ -12,7 +12,7 @@ ghost use Rattle.moves.specs.After.{applied, state_taken_back, after};
 use crate::marking;
 use forms::{net, places, words};
 use model::age::Age;
-use model::answer::{Answer, Barrier, Refusal};
+use model::answer::{Barrier, Refusal};
 use model::net::Net;
 use owed::{counts, marks, starts};
 
@@ -28,113 +28,113 @@ pub fn timely(net: &[u8], t: usize, age: Age) -> bool
 }
 
 // Transition t starts.
-pub fn start(net: &[u8], shape: Net, state: &mut [u8], t: usize) -> Answer
+pub fn start(net: &[u8], shape: Net, state: &mut [u8], t: usize) -> Result<(), Refusal>
     requires framed { Framed net.now shape state.old }
     requires state_value { has_no_old_end_owed (net_of net.now) (stored net.now state.old) ≡ true }
     ensures value { result ≡ answer_of (applied net.now false state.old (event.Start t)) }
     ensures state_after { state.new ≡ after (net_of net.now) (applied net.now false state.old (event.Start t)) state.old }
 {
     if shape.transitions <= t {
-        return Answer::Refused(Refusal::NoSuchTransition);
+        return Err(Refusal::NoSuchTransition);
     }
     let running = counts::count(net, shape, state, t, Age(0));
     if !Net::held(running + 1) {
         // 13 is told before 14
         let p = starts::lacking(net, shape, state, t);
         if p < shape.places {
-            return Answer::Refused(Refusal::NotEnabled(starts::short(net, shape, state, t, p)));
+            return Err(Refusal::NotEnabled(starts::short(net, shape, state, t, p)));
         }
-        return Answer::Refused(Refusal::CountFull);
+        return Err(Refusal::CountFull);
     }
     let from = places::inputs_at(shape.places, t);
     // the test that `lacking` makes, made as the tokens are taken: both promise the same place
     let p = marking::take(net, from, state, shape.places);
     if p < shape.places {
-        return Answer::Refused(Refusal::NotEnabled(starts::short(net, shape, state, t, p)));
+        return Err(Refusal::NotEnabled(starts::short(net, shape, state, t, p)));
     }
     words::write16(
         state,
         places::count_at(shape, t, Age(0).column()),
         running + 1,
     );
-    Answer::Done
+    Ok(())
 }
 
 // A start of transition t is taken back.
-pub fn unstart(net: &[u8], shape: Net, state: &mut [u8], t: usize) -> Answer
+pub fn unstart(net: &[u8], shape: Net, state: &mut [u8], t: usize) -> Result<(), Refusal>
     requires framed { Framed net.now shape state.old }
     requires state_value { has_no_old_end_owed (net_of net.now) (stored net.now state.old) ≡ true }
     ensures value { result ≡ answer_of (state_taken_back net.now false state.old (event.Start t)) }
     ensures state_after { state.new ≡ after (net_of net.now) (state_taken_back net.now false state.old (event.Start t)) state.old }
 {
     if shape.transitions <= t {
-        return Answer::Refused(Refusal::NoSuchTransition);
+        return Err(Refusal::NoSuchTransition);
     }
     let running = counts::count(net, shape, state, t, Age(0));
     if running == 0 {
-        return Answer::Refused(Refusal::OnlyBack(Barrier::NoneStarted));
+        return Err(Refusal::OnlyBack(Barrier::NoneStarted));
     }
     let from = places::inputs_at(shape.places, t);
     if !marking::give(net, from, state, shape.places) {
-        return Answer::Refused(Refusal::OnlyBack(Barrier::PlaceOverfull));
+        return Err(Refusal::OnlyBack(Barrier::PlaceOverfull));
     }
     words::write16(
         state,
         places::count_at(shape, t, Age(0).column()),
         running - 1,
     );
-    Answer::Done
+    Ok(())
 }
 
 // Transition t ends, at an age.
-pub fn end(net: &[u8], shape: Net, state: &mut [u8], t: usize, age: Age) -> Answer
+pub fn end(net: &[u8], shape: Net, state: &mut [u8], t: usize, age: Age) -> Result<(), Refusal>
     requires { Framed net.now shape state.old }
     ensures value { result ≡ answer_of (applied net.now false state.old (event.End t age)) }
     ensures state_after { state.new ≡ after (net_of net.now) (applied net.now false state.old (event.End t age)) state.old }
 {
     if shape.transitions <= t {
-        return Answer::Refused(Refusal::NoSuchTransition);
+        return Err(Refusal::NoSuchTransition);
     }
     if !timely(net, t, age) {
-        return Answer::Refused(Refusal::OutsideInterval);
+        return Err(Refusal::OutsideInterval);
     }
     let running = counts::count(net, shape, state, t, age);
     if running == 0 {
-        return Answer::Refused(Refusal::NoneOfThatAge);
+        return Err(Refusal::NoneOfThatAge);
     }
     let from = places::outputs_at(shape.places, t);
     if !marking::give(net, from, state, shape.places) {
-        return Answer::Refused(Refusal::PlaceFull);
+        return Err(Refusal::PlaceFull);
     }
     words::write16(state, places::count_at(shape, t, age.column()), running - 1);
-    Answer::Done
+    Ok(())
 }
 
 // An end of transition t at an age is taken back.
-pub fn unend(net: &[u8], shape: Net, state: &mut [u8], t: usize, age: Age) -> Answer
+pub fn unend(net: &[u8], shape: Net, state: &mut [u8], t: usize, age: Age) -> Result<(), Refusal>
     requires { Framed net.now shape state.old }
     ensures value { result ≡ answer_of (state_taken_back net.now false state.old (event.End t age)) }
     ensures state_after { state.new ≡ after (net_of net.now) (state_taken_back net.now false state.old (event.End t age)) state.old }
 {
     if shape.transitions <= t {
-        return Answer::Refused(Refusal::NoSuchTransition);
+        return Err(Refusal::NoSuchTransition);
     }
     if !timely(net, t, age) {
-        return Answer::Refused(Refusal::OutsideInterval);
+        return Err(Refusal::OutsideInterval);
     }
     let running = counts::count(net, shape, state, t, age);
     let from = places::outputs_at(shape.places, t);
     if !Net::held(running + 1) {
         // 26 is told before 27
         if marks::short_place(net, from, state, shape.places) < shape.places {
-            return Answer::Refused(Refusal::OnlyBack(Barrier::TooFewTokens));
+            return Err(Refusal::OnlyBack(Barrier::TooFewTokens));
         }
-        return Answer::Refused(Refusal::OnlyBack(Barrier::CountOverfull));
+        return Err(Refusal::OnlyBack(Barrier::CountOverfull));
     }
     // the test that `short_place` makes, made as the tokens are taken
     if marking::take(net, from, state, shape.places) < shape.places {
-        return Answer::Refused(Refusal::OnlyBack(Barrier::TooFewTokens));
+        return Err(Refusal::OnlyBack(Barrier::TooFewTokens));
     }
     words::write16(state, places::count_at(shape, t, age.column()), running + 1);
-    Answer::Done
+    Ok(())
 }

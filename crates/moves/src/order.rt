@@ -13,7 +13,7 @@ ghost use Rattle.moves.specs.After.{applied, state_taken_back, after, Answers, s
 use crate::{firing, marking};
 use forms::{net, places};
 use model::age::Age;
-use model::answer::{Answer, Barrier, Refusal};
+use model::answer::{Barrier, Refusal};
 use model::event::Event;
 use model::net::Net;
 use owed::{counts, starts};
@@ -91,7 +91,7 @@ fn may_end(started: bool, age: Age) -> bool
 }
 
 // Transition t starts. Whether a start has happened before in the step is all one to it.
-pub fn start(net: &[u8], shape: Net, state: &mut [u8], clear: bool, t: usize) -> Answer
+pub fn start(net: &[u8], shape: Net, state: &mut [u8], clear: bool, t: usize) -> Result<(), Refusal>
     requires framed { Framed net.now shape state.old }
     requires state_value { clear ≡ true → has_no_old_end_owed (net_of net.now) (stored net.now state.old) ≡ true }
     ensures value { result ≡ answer_of (applied net.now false state.old (event.Start t)) }
@@ -104,23 +104,29 @@ pub fn start(net: &[u8], shape: Net, state: &mut [u8], clear: bool, t: usize) ->
 }
 
 // Why transition t does not start while an end of age 1 or more is owed: 12 and 13 are told before 29.
-fn start_too_soon(net: &[u8], shape: Net, state: &[u8], t: usize) -> Answer
+fn start_too_soon(net: &[u8], shape: Net, state: &[u8], t: usize) -> Result<(), Refusal>
     requires framed { Framed net.now shape state.now }
     requires state_value { has_no_old_end_owed (net_of net.now) (stored net.now state.now) ≡ false }
     ensures { Answers net.now state.now (applied net.now false state.now (event.Start t)) result state.now }
 {
     if shape.transitions <= t {
-        return Answer::Refused(Refusal::NoSuchTransition);
+        return Err(Refusal::NoSuchTransition);
     }
     let p = starts::lacking(net, shape, state, t);
     if p < shape.places {
-        return Answer::Refused(Refusal::NotEnabled(starts::short(net, shape, state, t, p)));
+        return Err(Refusal::NotEnabled(starts::short(net, shape, state, t, p)));
     }
-    Answer::Refused(Refusal::OldEndOwed)
+    Err(Refusal::OldEndOwed)
 }
 
 // A start of transition t is taken back. It changed no count of age 1 or more, so what is owed now of these was owed before it.
-pub fn unstart(net: &[u8], shape: Net, state: &mut [u8], clear: bool, t: usize) -> Answer
+pub fn unstart(
+    net: &[u8],
+    shape: Net,
+    state: &mut [u8],
+    clear: bool,
+    t: usize,
+) -> Result<(), Refusal>
     requires framed { Framed net.now shape state.old }
     requires state_value { clear ≡ true → has_no_old_end_owed (net_of net.now) (stored net.now state.old) ≡ true }
     ensures value { result ≡ answer_of (state_taken_back net.now false state.old (event.Start t)) }
@@ -133,44 +139,58 @@ pub fn unstart(net: &[u8], shape: Net, state: &mut [u8], clear: bool, t: usize) 
 }
 
 // Why a start of transition t cannot have been made while an end of age 1 or more was owed: 12, 24 and 25 are told before 29.
-fn unstart_too_soon(net: &[u8], shape: Net, state: &[u8], t: usize) -> Answer
+fn unstart_too_soon(net: &[u8], shape: Net, state: &[u8], t: usize) -> Result<(), Refusal>
     requires framed { Framed net.now shape state.now }
     requires state_value { has_no_old_end_owed (net_of net.now) (stored net.now state.now) ≡ false }
     ensures { Answers net.now state.now (state_taken_back net.now false state.now (event.Start t)) result state.now }
 {
     if shape.transitions <= t {
-        return Answer::Refused(Refusal::NoSuchTransition);
+        return Err(Refusal::NoSuchTransition);
     }
     if counts::count(net, shape, state, t, Age(0)) == 0 {
-        return Answer::Refused(Refusal::OnlyBack(Barrier::NoneStarted));
+        return Err(Refusal::OnlyBack(Barrier::NoneStarted));
     }
     let from = places::inputs_at(shape.places, t);
     if !marking::has_room(net, from, state, shape.places) {
-        return Answer::Refused(Refusal::OnlyBack(Barrier::PlaceOverfull));
+        return Err(Refusal::OnlyBack(Barrier::PlaceOverfull));
     }
-    Answer::Refused(Refusal::OldEndOwed)
+    Err(Refusal::OldEndOwed)
 }
 
 // Transition t ends, at an age.
-pub fn end(net: &[u8], shape: Net, state: &mut [u8], started: bool, t: usize, age: Age) -> Answer
+pub fn end(
+    net: &[u8],
+    shape: Net,
+    state: &mut [u8],
+    started: bool,
+    t: usize,
+    age: Age,
+) -> Result<(), Refusal>
     requires { Framed net.now shape state.old }
     ensures value { result ≡ answer_of (applied net.now started state.old (event.End t age)) }
     ensures state_after { state.new ≡ after (net_of net.now) (applied net.now started state.old (event.End t age)) state.old }
 {
     if !may_end(started, age) {
-        return Answer::Refused(too_late(net, shape, t, age));
+        return Err(too_late(net, shape, t, age));
     }
     firing::end(net, shape, state, t, age)
 }
 
 // An end of transition t at an age is taken back.
-pub fn unend(net: &[u8], shape: Net, state: &mut [u8], started: bool, t: usize, age: Age) -> Answer
+pub fn unend(
+    net: &[u8],
+    shape: Net,
+    state: &mut [u8],
+    started: bool,
+    t: usize,
+    age: Age,
+) -> Result<(), Refusal>
     requires { Framed net.now shape state.old }
     ensures value { result ≡ answer_of (state_taken_back net.now started state.old (event.End t age)) }
     ensures state_after { state.new ≡ after (net_of net.now) (state_taken_back net.now started state.old (event.End t age)) state.old }
 {
     if !may_end(started, age) {
-        return Answer::Refused(too_late(net, shape, t, age));
+        return Err(too_late(net, shape, t, age));
     }
     firing::unend(net, shape, state, t, age)
 }

@@ -9,7 +9,7 @@ ghost use Rattle.moves.specs.After.{applied, state_taken_back, after, Settled};
 
 use crate::shift;
 use forms::places;
-use model::answer::{Answer, Barrier, Refusal};
+use model::answer::{Barrier, Refusal};
 use model::net::Net;
 use owed::{counts, starts};
 
@@ -33,59 +33,59 @@ fn move_back(net: &[u8], shape: Net, state: &mut [u8])
 }
 
 // Time passes by one tick.
-pub fn tick(net: &[u8], shape: Net, state: &mut [u8]) -> Answer
+pub fn tick(net: &[u8], shape: Net, state: &mut [u8]) -> Result<(), Refusal>
     requires { Framed net.now shape state.old }
     ensures value { result ≡ answer_of (applied net.now false state.old event.Tick) }
     ensures state_after { state.new ≡ after (net_of net.now) (applied net.now false state.old event.Tick) state.old }
 {
     if !starts::no_start_owed(net, shape, state) {
-        return Answer::Refused(Refusal::StartOwed);
+        return Err(Refusal::StartOwed);
     }
     if !counts::no_end_owed(net, shape, state) {
-        return Answer::Refused(Refusal::EndOwed);
+        return Err(Refusal::EndOwed);
     }
     if counts::nothing_running(net, shape, state) {
-        return Answer::Refused(Refusal::NothingRunning);
+        return Err(Refusal::NothingRunning);
     }
     move_on(net, shape, state);
-    Answer::Done
+    Ok(())
 }
 
 // A tick is taken back.
-pub fn untick(net: &[u8], shape: Net, state: &mut [u8]) -> Answer
+pub fn untick(net: &[u8], shape: Net, state: &mut [u8]) -> Result<(), Refusal>
     requires { Framed net.now shape state.old }
     ensures value { result ≡ answer_of (state_taken_back net.now false state.old event.Tick) }
     ensures state_after { state.new ≡ after (net_of net.now) (state_taken_back net.now false state.old event.Tick) state.old }
 {
     if !counts::none_fresh(net, shape, state) {
-        return Answer::Refused(Refusal::OnlyBack(Barrier::SomeFresh));
+        return Err(Refusal::OnlyBack(Barrier::SomeFresh));
     }
     if !starts::no_start_owed(net, shape, state) {
-        return Answer::Refused(Refusal::StartOwed);
+        return Err(Refusal::StartOwed);
     }
     if counts::nothing_running(net, shape, state) {
-        return Answer::Refused(Refusal::NothingRunning);
+        return Err(Refusal::NothingRunning);
     }
     move_back(net, shape, state);
-    Answer::Done
+    Ok(())
 }
 
 // Time passes by another tick: behind a tick no start is owed and something is running, so neither is looked for again.
-pub fn tick_again(net: &[u8], shape: Net, state: &mut [u8]) -> Answer
+pub fn tick_again(net: &[u8], shape: Net, state: &mut [u8]) -> Result<(), Refusal>
     requires framed { Framed net.now shape state.old }
     requires settled { Settled net.now state.old }
     ensures value { result ≡ answer_of (applied net.now false state.old event.Tick) }
     ensures state_after { state.new ≡ after (net_of net.now) (applied net.now false state.old event.Tick) state.old }
 {
     if !counts::no_end_owed(net, shape, state) {
-        return Answer::Refused(Refusal::EndOwed);
+        return Err(Refusal::EndOwed);
     }
     move_on(net, shape, state);
-    Answer::Done
+    Ok(())
 }
 
 // Another tick is taken back.
-pub fn untick_again(net: &[u8], shape: Net, state: &mut [u8]) -> Answer
+pub fn untick_again(net: &[u8], shape: Net, state: &mut [u8]) -> Result<(), Refusal>
     requires framed { Framed net.now shape state.old }
     requires settled { Settled net.now state.old }
     ensures value { result ≡ answer_of (state_taken_back net.now false state.old event.Tick) }
@@ -93,8 +93,8 @@ pub fn untick_again(net: &[u8], shape: Net, state: &mut [u8]) -> Answer
 {
     let none_fresh = counts::none_fresh(net, shape, state);
     if !none_fresh {
-        return Answer::Refused(Refusal::OnlyBack(Barrier::SomeFresh));
+        return Err(Refusal::OnlyBack(Barrier::SomeFresh));
     }
     move_back(net, shape, state);
-    Answer::Done
+    Ok(())
 }
