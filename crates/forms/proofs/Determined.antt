@@ -47,10 +47,10 @@ use Rattle.forms.proofs.fault.U8FromFault.from.Reads as fault-number
 use Rattle.forms.proofs.fault.U8FromFault.from.Kinds as fault-number-kinds
 use Rattle.forms.proofs.fault.Fault.index.Reads as fault-index
 use Rattle.forms.proofs.fault.Fault.index.Kinds as fault-index-kinds
-use Rattle.forms.proofs.fault.number.Reads as checked-number
-use Rattle.forms.proofs.fault.number.Kinds as checked-number-kinds
-use Rattle.forms.proofs.fault.index.Reads as checked-index
-use Rattle.forms.proofs.fault.index.Kinds as checked-index-kinds
+use Rattle.forms.proofs.fault.number_of.Reads as checked-number
+use Rattle.forms.proofs.fault.number_of.Kinds as checked-number-kinds
+use Rattle.forms.proofs.fault.index_of.Reads as checked-index
+use Rattle.forms.proofs.fault.index_of.Kinds as checked-index-kinds
 use Rattle.forms.proofs.net.check_net.Reads as check-net
 use Rattle.forms.proofs.net.check_net.Kinds as check-net-kinds
 use Rattle.forms.proofs.net.sfd.Reads as sfd

@@ -25,7 +25,6 @@ pub enum Fault {
     LogFrame,
 }
 
-// Document 01's number.
 impl From<Fault> for u8 {
     ghost from_gives = { λ fault number. number ≡ number_of_fault fault };
 
@@ -46,37 +45,34 @@ impl From<Fault> for u8 {
 }
 
 impl Fault {
-    // The transition at fault, where one is told.
+    // The transition at fault, or 0 where none is told. Each fault is named, so that a new one must say what it tells.
     pub fn index(self) -> usize
         ensures { result ≡ index_of_fault self }
     {
         match self {
-            Fault::NoInterval(t) => t,
-            Fault::NoInput(t) => t,
-            Fault::NoOutput(t) => t,
-            Fault::PastLfd(t) => t,
-            Fault::NetFrame => 0,
-            Fault::NetSize => 0,
-            Fault::NetLength => 0,
-            Fault::NoRoom => 0,
-            Fault::StateFrame => 0,
-            Fault::LogFrame => 0,
+            Fault::NoInterval(t) | Fault::NoInput(t) | Fault::NoOutput(t) | Fault::PastLfd(t) => t,
+            Fault::NetFrame
+            | Fault::NetSize
+            | Fault::NetLength
+            | Fault::NoRoom
+            | Fault::StateFrame
+            | Fault::LogFrame => 0,
         }
     }
 }
 
 // The number that a check tells: 0 where nothing is wrong.
-pub fn number(checked: Result<(), Fault>) -> u8
+pub fn number_of(checked: Result<(), Fault>) -> u8
     ensures { result ≡ number_of checked }
 {
     match checked {
         Ok(()) => 0,
-        Err(fault) => u8::from(fault),
+        Err(fault) => fault.into(),
     }
 }
 
-// And the index that it tells.
-pub fn index(checked: Result<(), Fault>) -> usize
+// And its index.
+pub fn index_of(checked: Result<(), Fault>) -> usize
     ensures { result ≡ index_of checked }
 {
     match checked {
