@@ -28,7 +28,7 @@ fn initial(out: &mut [u8], net: &[u8], state: &mut [u8]) -> usize
 {
     let mut told = [0u64; 2];
     menu::menu_initial(net, state, &mut told);
-    line::put_line_with(out, 0, b"initial", &told, state)
+    line::put_line_with(out, 0, b"initial", &told, &[state])
 }
 
 fn check_state(out: &mut [u8], net: &[u8], state: &[u8]) -> usize
@@ -49,7 +49,7 @@ fn event(out: &mut [u8], net: &[u8], state: &mut [u8], first: u8, second: u8, st
 {
     let mut told = [0u64; 4];
     menu::menu_event(net, state, first, second, started, &mut told);
-    line::put_line_with(out, 0, b"event", &told, state)
+    line::put_line_with(out, 0, b"event", &told, &[state])
 }
 
 fn back(out: &mut [u8], net: &[u8], state: &mut [u8], first: u8, second: u8, started: u64) -> usize
@@ -60,7 +60,7 @@ fn back(out: &mut [u8], net: &[u8], state: &mut [u8], first: u8, second: u8, sta
 {
     let mut told = [0u64; 2];
     menu::menu_back(net, state, first, second, started, &mut told);
-    line::put_line_with(out, 0, b"back", &told, state)
+    line::put_line_with(out, 0, b"back", &told, &[state])
 }
 
 fn degree(out: &mut [u8], net: &[u8], state: &[u8], t: usize) -> usize
@@ -91,7 +91,7 @@ fn run(out: &mut [u8], net: &[u8], state: &mut [u8], log: &[u8], started: u64) -
 {
     let mut told = [0u64; 7];
     menu::menu_run(net, state, log, started, &mut told);
-    line::put_line_with(out, 0, b"run", &told, state)
+    line::put_line_with(out, 0, b"run", &told, &[state])
 }
 
 fn walk(out: &mut [u8], net: &[u8], state: &mut [u8], log: &[u8], n: usize, started: u64) -> usize
@@ -102,7 +102,7 @@ fn walk(out: &mut [u8], net: &[u8], state: &mut [u8], log: &[u8], n: usize, star
 {
     let mut told = [0u64; 4];
     menu::menu_walk(net, state, log, n, started, &mut told);
-    line::put_line_with(out, 0, b"walk", &told, state)
+    line::put_line_with(out, 0, b"walk", &told, &[state])
 }
 
 fn step(out: &mut [u8], log: &[u8], k: usize) -> usize
@@ -124,7 +124,7 @@ fn page(out: &mut [u8], net: &[u8], state: &mut [u8], log: &mut [u8], budget: us
 {
     let mut told = [0u64; 5];
     menu::menu_page(net, state, log, budget, &mut told);
-    line::put_line_with_two(out, 0, b"page", &told, state, log)
+    line::put_line_with(out, 0, b"page", &told, &[state, log])
 }
 
 fn balance(out: &mut [u8], net: &[u8], state: &[u8], weights: &[u8]) -> usize

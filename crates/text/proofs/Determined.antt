@@ -28,8 +28,6 @@ use Rattle.text.proofs.line.put_line.Reads as put-line
 use Rattle.text.proofs.line.put_line.Kinds as put-line-kinds
 use Rattle.text.proofs.line.put_line_with.Reads as put-line-with
 use Rattle.text.proofs.line.put_line_with.Kinds as put-line-with-kinds
-use Rattle.text.proofs.line.put_line_with_two.Reads as put-line-with-two
-use Rattle.text.proofs.line.put_line_with_two.Kinds as put-line-with-two-kinds
 
 -- a number is spelt in one way
 module _ (before : List ℕ) (at n : ℕ) (after after' : List ℕ) (end end' : ℕ) (a : Spelt before at n after end) (b : Spelt before at n after' end') where
@@ -121,14 +119,8 @@ put-line-determined κs args x y s s' p q = (line-once _ _ _ _ _ s.0.now s'.0.no
 pub put-line-leaves : LeavesOne 3 put-line-kinds.ps put-line-kinds.r put-line.Learnt (λ κs s. s.0.now)
 put-line-leaves κs args x y s s' p q = (line-once _ _ _ _ _ s.0.now s'.0.now x y p.1 q.1).0
 
-pub put-line-with-determined : Determined 4 put-line-with-kinds.ps put-line-with-kinds.r put-line-with.Learnt
+pub put-line-with-determined : Determined 5 put-line-with-kinds.ps put-line-with-kinds.r put-line-with.Learnt
 put-line-with-determined κs args x y s s' p q = (line-once _ _ _ _ _ s.0.now s'.0.now x y p.1 q.1).1
 
-pub put-line-with-leaves : LeavesOne 4 put-line-with-kinds.ps put-line-with-kinds.r put-line-with.Learnt (λ κs s. s.0.now)
+pub put-line-with-leaves : LeavesOne 5 put-line-with-kinds.ps put-line-with-kinds.r put-line-with.Learnt (λ κs s. s.0.now)
 put-line-with-leaves κs args x y s s' p q = (line-once _ _ _ _ _ s.0.now s'.0.now x y p.1 q.1).0
-
-pub put-line-with-two-determined : Determined 5 put-line-with-two-kinds.ps put-line-with-two-kinds.r put-line-with-two.Learnt
-put-line-with-two-determined κs args x y s s' p q = (line-once _ _ _ _ _ s.0.now s'.0.now x y p.1 q.1).1
-
-pub put-line-with-two-leaves : LeavesOne 5 put-line-with-two-kinds.ps put-line-with-two-kinds.r put-line-with-two.Learnt (λ κs s. s.0.now)
-put-line-with-two-leaves κs args x y s s' p q = (line-once _ _ _ _ _ s.0.now s'.0.now x y p.1 q.1).0

@@ -1,17 +1,13 @@
--- How many digits a number has in decimal: one number only, and at most `digits_most` for one of 64 bits.
+-- How many digits a number has in decimal: one number only.
 -- Assumes nothing.
-use mathlib.Core.Path.{◌≡◌, refl, sym, ap, ◌∙◌}
+use mathlib.Core.Path.{◌≡◌, refl}
 use mathlib.Core.Bool.{Bool, true, false}
-use mathlib.Core.List.{List}
-use Prim.Native.Nat.{ℕ, ◌+◌, ◌-◌, ◌^◌, ◌<◌, ◌≤◌}
+use Prim.Native.Nat.{ℕ, ◌-◌, ◌^◌, ◌<◌, ◌≤◌}
 use native.Mathlib.Nat.{pow-le-pow_right}
 use native.Mathlib.Omega.{arith}
-use lib.ListN.{length, take}
-use lib.Seq.{paste}
 use lib.Dec.{ltb}
 use borrow.Author.Tests.{ltb-true, ltb-false}
-use Rattle.io.specs.Digits.{last_digits, IsDigitCount}
-use Rattle.text.specs.Lines.{digits_most, Spelt}
+use Rattle.io.specs.Digits.{IsDigitCount}
 
 -- no number of digits is more than another that holds the number
 few : (n j k : ℕ) → 1 ≤ j → n < 10 ^ j → IsDigitCount 10 1 n k → k ≤ j
@@ -30,21 +26,3 @@ fewest-once n j k f g =
     let a : k ≤ j = few n j k f.0 f.1 g in
     let b : j ≤ k = few n k j g.0 g.1 f in
     omega arith
-
-pub digits-at-most : (n k : ℕ) → n < 2 ^ 64 → IsDigitCount 10 1 n k → k ≤ digits_most
-digits-at-most n k h f = few n digits_most k (omega arith) (omega arith) f
-
--- the digits as `io` makes them, put into a buffer
-pub spelt : (out : List ℕ) (at n k : ℕ) (after made : List ℕ) (end : ℕ) → n < 2 ^ 64
-    → k ≡ length (take k made) → IsDigitCount 10 1 n k → take k made ≡ last_digits 10 k n
-    → end ≡ at + length (take k made) → after ≡ paste out at (take k made) (length (take k made))
-    → (end ≤ at + digits_most) × Spelt out at n after end
-spelt out at n k after made end h counted f are ends stands = (
-  omega (arith, digits-at-most n k h f),
-  record {
-    places = k;
-    fewest = f;
-    ends = omega arith;
-    stands = stands ∙ ap (λ (m : ℕ). paste out at (take k made) m) (sym counted) ∙ ap (λ (l : List ℕ). paste out at l k) are;
-  },
-)

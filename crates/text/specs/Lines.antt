@@ -1,6 +1,7 @@
 -- What stands in a buffer when a part of a line was put there.
 -- Assumes nothing.
-use Rattle.std.specs.Prelude.{◌≡◌, cond, List, [], ◌∷◌, ℕ, zero, suc, ◌+◌, ◌*◌, ◌/◌, ◌%◌, eqb, length, get_or, set}
+use Rattle.std.specs.Prelude.{◌≡◌, cond, List, [], ◌∷◌, ℕ, zero, suc, ◌+◌, ◌*◌, ◌/◌, ◌%◌, eqb, length, get_or, set, map}
+use Rattle.std.specs.Borrow.{Bor}
 use Rattle.std.proofs.Math.Seq.{paste}
 use Rattle.io.specs.Digits.{hex_digit_ascii, last_digits, IsDigitCount}
 
@@ -27,6 +28,15 @@ dash = 45
 -- a buffer of n bytes has at most so many as a field
 abbrev pub buffer_most : ℕ → ℕ
 buffer_most n = 2 + 2 * n
+
+-- what several lent buffers hold
+abbrev pub contents : List (Bor (List ℕ)) → List (List ℕ)
+contents buffers = map (λ b. b.now) buffers
+
+-- and so many take at most so many
+abbrev pub buffers_most : List (List ℕ) → ℕ
+buffers_most [] = 0
+buffers_most (bytes ∷ rest) = buffer_most (length bytes) + buffers_most rest
 
 -- and a line, its end included, with a name of so many bytes and so many numbers, and no buffer
 abbrev pub line_most : ℕ → ℕ → ℕ

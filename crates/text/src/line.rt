@@ -1,10 +1,13 @@
 // Lines, and what they are made of, put into a lent buffer from a place on: bytes, decimal numbers, and bytes in hex. Each function
 // answers the place behind what it put. Nothing else in the buffer changes.
-ghost use Rattle.std.specs.Prelude.{◌≡◌, [], ◌∷◌, ◌+◌, ◌*◌, ◌<◌, ◌≤◌, length, set};
+//
+// The buffer and the place go as two arguments: of a struct that held the lent buffer each clause would speak as `w.new.out.now` and `w.new.at`,
+// where it now says `out.new` and `result`, and most callers would make the struct for a single line, at 0.
+ghost use Rattle.std.specs.Prelude.{◌≡◌, [], ◌+◌, ◌*◌, ◌<◌, ◌≤◌, length, set};
 ghost use Rattle.std.proofs.Math.Seq.{paste};
 ghost use Rattle.io.specs.Digits.{hex_digit_ascii};
 ghost use Rattle.text.specs.Lines.{digits_most, field_most, buffer_most, line_most, space, Spelt, Fields};
-ghost use Rattle.text.specs.Lines.{hexed, buffered, behind_buffer, Line};
+ghost use Rattle.text.specs.Lines.{hexed, buffered, contents, behind_buffer, all_buffered, behind_buffers, buffers_most, Line};
 
 // A number of 64 bits has at most so many digits in decimal.
 pub const DIGITS_MOST: usize = 20;
@@ -28,12 +31,9 @@ pub fn put_bytes(out: &mut [u8], at: usize, bytes: &[u8]) -> usize
     ensures value { result ≡ at + length bytes.now }
     ensures out_after { out.new ≡ paste out.old at bytes.now (length bytes.now) }
 {
-    let mut i = 0;
-    while i < bytes.len() {
-        out[at + i] = bytes[i];
-        i += 1;
-    }
-    at + i
+    let end = at + bytes.len();
+    out[at..end].copy_from_slice(bytes);
+    end
 }
 
 // A number in decimal.
@@ -64,28 +64,24 @@ pub fn put_fields(out: &mut [u8], at: usize, numbers: &[u64]) -> usize
     ensures fields { Fields out.old at numbers.now out.new result }
 {
     let mut end = at;
-    let mut i = 0;
-    while i < numbers.len() {
-        end = put_field(out, end, numbers[i]);
-        i += 1;
+    for n in numbers {
+        end = put_field(out, end, *n);
     }
     end
 }
 
 // The bytes in hex, two digits each, in lower case.
+#[tactic(auto, unfolding(crate::specs::Lines::hexed))]
 pub fn put_hex(out: &mut [u8], at: usize, bytes: &[u8]) -> usize
     requires { at + 2 * length bytes.now ≤ length out.old }
     ensures value { result ≡ at + 2 * length bytes.now }
     ensures out_after { out.new ≡ hexed out.old at bytes.now (length bytes.now) }
 {
-    let mut i = 0;
-    while i < bytes.len() {
-        let byte = bytes[i];
-        out[at + 2 * i] = digit(byte / 16);
-        out[at + 2 * i + 1] = digit(byte % 16);
-        i += 1;
+    for (i, byte) in bytes.iter().enumerate() {
+        out[at + 2 * i] = digit(*byte / 16);
+        out[at + 2 * i + 1] = digit(*byte % 16);
     }
-    at + 2 * i
+    at + 2 * bytes.len()
 }
 
 // The hex digit of a number below 16.
@@ -97,57 +93,56 @@ fn digit(n: u8) -> u8
 }
 
 // A blank, and the bytes in hex, or `-` where there is none.
+#[tactic(auto, unfolding(crate::specs::Lines::buffered, crate::specs::Lines::behind_buffer))]
 pub fn put_buffer(out: &mut [u8], at: usize, bytes: &[u8]) -> usize
     requires { at + buffer_most (length bytes.now) ≤ length out.old }
     ensures value { (result ≡ behind_buffer at bytes.now) × (result ≤ at + buffer_most (length bytes.now)) }
     ensures out_after { out.new ≡ buffered out.old at bytes.now }
 {
     let from = put_byte(out, at, b' ');
-    if bytes.len() == 0 {
-        return put_byte(out, from, b'-');
+    if bytes.is_empty() {
+        put_byte(out, from, b'-')
+    } else {
+        put_hex(out, from, bytes)
     }
-    put_hex(out, from, bytes)
 }
 
-// A line: a name and numbers.
+// The buffers as fields, one behind the other.
+fn put_buffers(out: &mut [u8], at: usize, buffers: &[&[u8]]) -> usize
+    requires { at + buffers_most (contents buffers.now) ≤ length out.old }
+    ensures value { (result ≡ behind_buffers at (contents buffers.now)) × (result ≤ at + buffers_most (contents buffers.now)) }
+    ensures out_after { out.new ≡ all_buffered out.old at (contents buffers.now) }
+{
+    let mut end = at;
+    for bytes in buffers {
+        end = put_buffer(out, end, bytes);
+    }
+    end
+}
+
+// A line: a name and numbers, and the buffers behind them.
+pub fn put_line_with(
+    out: &mut [u8],
+    at: usize,
+    name: &[u8],
+    numbers: &[u64],
+    buffers: &[&[u8]],
+) -> usize
+    requires { at + line_most (length name.now) (length numbers.now) + buffers_most (contents buffers.now) ≤ length out.old }
+    ensures upper_bound { result ≤ at + line_most (length name.now) (length numbers.now) + buffers_most (contents buffers.now) }
+    ensures line { Line out.old at name.now numbers.now (contents buffers.now) out.new result }
+{
+    let named = put_bytes(out, at, name);
+    let last = put_fields(out, named, numbers);
+    let end = put_buffers(out, last, buffers);
+    put_byte(out, end, b'\n')
+}
+
+// A line with no buffer.
 pub fn put_line(out: &mut [u8], at: usize, name: &[u8], numbers: &[u64]) -> usize
     requires { at + line_most (length name.now) (length numbers.now) ≤ length out.old }
     ensures upper_bound { result ≤ at + line_most (length name.now) (length numbers.now) }
     ensures line { Line out.old at name.now numbers.now [] out.new result }
 {
-    let named = put_bytes(out, at, name);
-    let last = put_fields(out, named, numbers);
-    put_byte(out, last, b'\n')
-}
-
-// A line with a buffer behind its numbers.
-pub fn put_line_with(out: &mut [u8], at: usize, name: &[u8], numbers: &[u64], bytes: &[u8]) -> usize
-    requires { at + line_most (length name.now) (length numbers.now) + buffer_most (length bytes.now) ≤ length out.old }
-    ensures upper_bound { result ≤ at + line_most (length name.now) (length numbers.now) + buffer_most (length bytes.now) }
-    ensures line { Line out.old at name.now numbers.now (bytes.now ∷ []) out.new result }
-{
-    let named = put_bytes(out, at, name);
-    let last = put_fields(out, named, numbers);
-    let end = put_buffer(out, last, bytes);
-    put_byte(out, end, b'\n')
-}
-
-// A line with two buffers behind its numbers.
-pub fn put_line_with_two(
-    out: &mut [u8],
-    at: usize,
-    name: &[u8],
-    numbers: &[u64],
-    one: &[u8],
-    other: &[u8],
-) -> usize
-    requires { at + line_most (length name.now) (length numbers.now) + buffer_most (length one.now) + buffer_most (length other.now) ≤ length out.old }
-    ensures upper_bound { result ≤ at + line_most (length name.now) (length numbers.now) + buffer_most (length one.now) + buffer_most (length other.now) }
-    ensures line { Line out.old at name.now numbers.now (one.now ∷ other.now ∷ []) out.new result }
-{
-    let named = put_bytes(out, at, name);
-    let last = put_fields(out, named, numbers);
-    let between = put_buffer(out, last, one);
-    let end = put_buffer(out, between, other);
-    put_byte(out, end, b'\n')
+    put_line_with(out, at, name, numbers, &[])
 }
