@@ -16,6 +16,7 @@ pub mod NetIsListed
 pub mod Pieces
 pub mod ListedState
 pub mod Frames
+pub mod CheckedNets
 pub mod Inside
 pub mod Cases
 pub mod Edges

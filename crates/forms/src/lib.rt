@@ -2,6 +2,7 @@
 #![tactic(auto)]
 
 pub mod begins;
+pub mod checked;
 pub mod fault;
 pub mod initial;
 pub mod log;

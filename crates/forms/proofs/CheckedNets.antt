@@ -1,0 +1,15 @@
+-- What a checked net gives: the facts that its two ghost fields come to.
+-- Assumes nothing.
+use Rattle.model.specs.declared.net.Net.{Net as Shape}
+use Rattle.forms.specs.declared.checked.CheckedNet.{CheckedNet}
+use Rattle.forms.specs.Stored.{net_of}
+use Rattle.forms.specs.States.{IsState}
+use Rattle.forms.specs.Frame.{FramedNet, Framed}
+use Rattle.forms.proofs.Frames.{net_frame}
+
+pub framed_net : (net : CheckedNet) → FramedNet net.bytes.now net.shape
+framed_net net = net_frame net.bytes.now net.shape net.passes net.has_shape
+
+-- with a state of it
+pub framed : (net : CheckedNet) {state : _} → IsState (net_of net.bytes.now) state → Framed net.bytes.now net.shape state
+framed net s = record { net_framed = framed_net net; is_state = s }
