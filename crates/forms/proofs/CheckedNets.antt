@@ -1,6 +1,5 @@
 -- What a checked net gives: the facts that its two ghost fields come to.
 -- Assumes nothing.
-use Rattle.model.specs.declared.net.Net.{Net as Shape}
 use Rattle.forms.specs.declared.checked.CheckedNet.{CheckedNet}
 use Rattle.forms.specs.Stored.{net_of}
 use Rattle.forms.specs.States.{IsState}

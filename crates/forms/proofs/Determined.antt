@@ -51,6 +51,10 @@ use Rattle.forms.proofs.fault.number_of.Reads as checked-number
 use Rattle.forms.proofs.fault.number_of.Kinds as checked-number-kinds
 use Rattle.forms.proofs.fault.index_of.Reads as checked-index
 use Rattle.forms.proofs.fault.index_of.Kinds as checked-index-kinds
+use Rattle.forms.proofs.checked.CheckedNet.sfd.Reads as checked-net-sfd
+use Rattle.forms.proofs.checked.CheckedNet.sfd.Kinds as checked-net-sfd-kinds
+use Rattle.forms.proofs.checked.CheckedNet.lfd.Reads as checked-net-lfd
+use Rattle.forms.proofs.checked.CheckedNet.lfd.Kinds as checked-net-lfd-kinds
 use Rattle.forms.proofs.net.check_net.Reads as check-net
 use Rattle.forms.proofs.net.check_net.Kinds as check-net-kinds
 use Rattle.forms.proofs.net.sfd.Reads as sfd
@@ -152,6 +156,12 @@ lfd-determined κs args x y s s' p q = p.0 ∙ sym q.0
 pub shape-of-determined : Determined 1 shape-of-kinds.ps shape-of-kinds.r shape_of.Learnt
 shape-of-determined κs args x y s s' p q = shape-once _ x y p q
 
+pub checked-net-sfd-determined : Determined 1 checked-net-sfd-kinds.ps checked-net-sfd-kinds.r checked-net-sfd.Learnt
+checked-net-sfd-determined κs args x y s s' p q = p ∙ sym q
+
+pub checked-net-lfd-determined : Determined 1 checked-net-lfd-kinds.ps checked-net-lfd-kinds.r checked-net-lfd.Learnt
+checked-net-lfd-determined κs args x y s s' p q = p.0 ∙ sym q.0
+
 pub check-state-determined : Determined 2 check-state-kinds.ps check-state-kinds.r check-state.Learnt
 check-state-determined κs args x y s s' p q = p ∙ sym q
 
@@ -161,5 +171,5 @@ check-log-determined κs args x y s s' p q = p ∙ sym q
 pub initial-determined : Determined 2 initial-kinds.ps initial-kinds.r initial.Learnt
 initial-determined κs args x y s s' p q = p.0 ∙ sym q.0
 
-pub initial-leaves : LeavesOne 2 initial-kinds.ps initial-kinds.r initial.Learnt (λ κs s. s.1.1.0.now)
+pub initial-leaves : LeavesOne 2 initial-kinds.ps initial-kinds.r initial.Learnt (λ κs s. s.1.0.now)
 initial-leaves κs args x y s s' p q = p.1 ∙ sym q.1

@@ -4,8 +4,8 @@ ghost use Rattle.forms.specs.Word.{word, put_words};
 ghost use Rattle.forms.specs.Places.{initial_at, mark_at};
 ghost use Rattle.forms.specs.Stored.{net_of};
 ghost use Rattle.forms.specs.Written.{headed, check_room, after_initial};
-ghost use Rattle.forms.specs.Frame.{FramedNet};
 
+use crate::checked::CheckedNet;
 use crate::fault::Fault;
 use crate::{begins, places, words};
 use model::net::Net;
@@ -39,15 +39,15 @@ fn write_marking(net: &[u8], places: usize, state: &mut [u8])
 }
 
 // Writes the whole image of the initial state at the front of the buffer, where there is room.
-pub fn initial(net: &[u8], shape: Net, state: &mut [u8]) -> Result<(), Fault>
-    requires { FramedNet net.now shape }
-    ensures { (result ≡ check_room (net_of net.now) state.old) × (state.new ≡ after_initial (net_of net.now) state.old) }
+pub fn initial(net: CheckedNet, state: &mut [u8]) -> Result<(), Fault>
+    ensures { (result ≡ check_room (net_of net.entry.bytes.now) state.old) × (state.new ≡ after_initial (net_of net.entry.bytes.now) state.old) }
 {
+    let shape = net.shape;
     if state.len() < places::state_length(shape) {
         return Err(Fault::NoRoom);
     }
     write_head(shape, state);
-    write_marking(net, shape.places, state);
+    write_marking(net.bytes, shape.places, state);
     words::clear(state, places::clock_at(shape.places), places::cells(shape));
     Ok(())
 }

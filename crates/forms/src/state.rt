@@ -4,10 +4,10 @@ ghost use Rattle.forms.specs.Word.{byte};
 ghost use Rattle.forms.specs.Checked.{in_turn};
 ghost use Rattle.forms.specs.Stored.{net_of};
 ghost use Rattle.forms.specs.States.{StateHead, has_head, check_counts, check_state};
-ghost use Rattle.forms.specs.Frame.{FramedNet};
 
+use crate::checked::CheckedNet;
 use crate::fault::Fault;
-use crate::{begins, net, places, words};
+use crate::{begins, places, words};
 use model::age::Age;
 use model::net::Net;
 
@@ -36,38 +36,36 @@ fn has_head(shape: Net, state: &[u8]) -> bool
 }
 
 // Transition t: no count stands at an age above its lfd.
-fn check_counts(net: &[u8], shape: Net, state: &[u8], t: usize) -> Result<(), Fault>
-    requires framed_net { FramedNet net.now shape }
-    requires state_head { StateHead (net_of net.now) state.now × (t < byte net.now 6) }
-    ensures { result ≡ check_counts (net_of net.now) state.now t }
+fn check_counts(net: CheckedNet, state: &[u8], t: usize) -> Result<(), Fault>
+    requires state_head { StateHead (net_of net.bytes.now) state.now }
+    requires t_bound { t < byte net.bytes.now 6 }
+    ensures { result ≡ check_counts (net_of net.entry.bytes.now) state.now t }
 {
-    let above = net::lfd(net, t) + 1;
-    let at = places::count_at(shape, t, Age(above as u8).column());
-    if !words::blank(state, at, shape.width - above) {
+    let above = net.lfd(t) + 1;
+    let at = places::count_at(net.shape, t, Age(above as u8).column());
+    if !words::blank(state, at, net.shape.width - above) {
         return Err(Fault::PastLfd(t));
     }
     Ok(())
 }
 
 // The transitions in turn, from the lowest.
-fn check_all_counts(net: &[u8], shape: Net, state: &[u8]) -> Result<(), Fault>
-    requires framed_net { FramedNet net.now shape }
-    requires state_head { StateHead (net_of net.now) state.now }
-    ensures { result ≡ in_turn (check_counts (net_of net.now) state.now) 0 (net_of net.now).transitions }
+fn check_all_counts(net: CheckedNet, state: &[u8]) -> Result<(), Fault>
+    requires { StateHead (net_of net.bytes.now) state.now }
+    ensures { result ≡ in_turn (check_counts (net_of net.entry.bytes.now) state.now) 0 (net_of net.entry.bytes.now).transitions }
 {
-    for t in 0..shape.transitions {
-        check_counts(net, shape, state, t)?;
+    for t in 0..net.shape.transitions {
+        check_counts(net, state, t)?;
     }
     Ok(())
 }
 
 // Checks that a state of the net stands at the front of the buffer.
-pub fn check_state(net: &[u8], shape: Net, state: &[u8]) -> Result<(), Fault>
-    requires { FramedNet net.now shape }
-    ensures { result ≡ check_state (net_of net.now) state.now }
+pub fn check_state(net: CheckedNet, state: &[u8]) -> Result<(), Fault>
+    ensures { result ≡ check_state (net_of net.entry.bytes.now) state.now }
 {
-    if !has_head(shape, state) {
+    if !has_head(net.shape, state) {
         return Err(Fault::StateFrame);
     }
-    check_all_counts(net, shape, state)
+    check_all_counts(net, state)
 }

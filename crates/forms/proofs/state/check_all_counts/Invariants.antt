@@ -5,4 +5,4 @@ use Rattle.forms.proofs.Turns.{Left}
 use Rattle.forms.proofs.state.check_all_counts.Given as goal
 
 abbrev pub invariant-loop-t : goal.invariant-loop-t
-invariant-loop-t l = Left (check_counts (net_of l.net) l.state) (net_of l.net).transitions l.t
+invariant-loop-t l = Left (check_counts (net_of l.net.bytes.now) l.state) (net_of l.net.bytes.now).transitions l.t
