@@ -4,6 +4,7 @@ pub mod Lowest
 pub mod Tests
 pub mod Lacking
 pub mod Alls
+pub mod Ranges
 pub mod Ages
 pub mod Shape
 pub mod ForwardSteps

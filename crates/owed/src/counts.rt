@@ -33,27 +33,17 @@ pub fn no_end_owed(net: &[u8], shape: Net, state: &[u8]) -> bool
     requires { Framed net.now shape state.now }
     ensures { result ≡ has_no_end_owed (net_of net.now) (stored net.now state.now) }
 {
-    let transitions = shape.transitions;
-    let mut t = 0;
-    while t < transitions {
-        if due(net, shape, state, t) != 0 {
-            return false;
-        }
-        t += 1;
-    }
-    true
+    (0..shape.transitions).all(|t| due(net, shape, state, t) == 0)
 }
 
 // No end of age 1 or more is owed by transition t: no count stands at its lfd, or its lfd is 0.
+#[tactic(auto, using(std::proofs::lemmas::Bool::Decides::nat_tests), unfolding(model::specs::Rules::owes_no_old_end))]
 fn owes_no_old_end(net: &[u8], shape: Net, state: &[u8], t: usize) -> bool
     requires framed { Framed net.now shape state.now }
     requires t_bound { t < byte net.now 6 }
     ensures { result ≡ owes_no_old_end (net_of net.now) (stored net.now state.now) t }
 {
-    if due(net, shape, state, t) == 0 {
-        return true;
-    }
-    net::lfd(net, t) == 0
+    due(net, shape, state, t) == 0 || net::lfd(net, t) == 0
 }
 
 // No end of age 1 or more is owed.
@@ -61,15 +51,7 @@ pub fn no_old_end_owed(net: &[u8], shape: Net, state: &[u8]) -> bool
     requires { Framed net.now shape state.now }
     ensures { result ≡ has_no_old_end_owed (net_of net.now) (stored net.now state.now) }
 {
-    let transitions = shape.transitions;
-    let mut t = 0;
-    while t < transitions {
-        if !owes_no_old_end(net, shape, state, t) {
-            return false;
-        }
-        t += 1;
-    }
-    true
+    (0..shape.transitions).all(|t| owes_no_old_end(net, shape, state, t))
 }
 
 // No firing has age 0.
@@ -77,15 +59,7 @@ pub fn none_fresh(net: &[u8], shape: Net, state: &[u8]) -> bool
     requires { Framed net.now shape state.now }
     ensures { result ≡ has_none_fresh (net_of net.now) (stored net.now state.now) }
 {
-    let transitions = shape.transitions;
-    let mut t = 0;
-    while t < transitions {
-        if count(net, shape, state, t, Age(0)) != 0 {
-            return false;
-        }
-        t += 1;
-    }
-    true
+    (0..shape.transitions).all(|t| count(net, shape, state, t, Age(0)) == 0)
 }
 
 // No count is above 0: the clock matrix is one block of words.

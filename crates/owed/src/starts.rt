@@ -47,13 +47,5 @@ pub fn no_start_owed(net: &[u8], shape: Net, state: &[u8]) -> bool
     requires { Framed net.now shape state.now }
     ensures { result ≡ has_no_start_owed (net_of net.now) (stored net.now state.now) }
 {
-    let transitions = shape.transitions;
-    let mut t = 0;
-    while t < transitions {
-        if enabled(net, shape, state, t) {
-            return false;
-        }
-        t += 1;
-    }
-    true
+    (0..shape.transitions).all(|t| !enabled(net, shape, state, t))
 }
