@@ -1,5 +1,6 @@
 pub mod WordLaws
 pub mod Runs
+pub mod WordBytes
 pub mod Stored
 pub mod Written
 pub mod Blank

@@ -1,11 +1,16 @@
 -- The check of a net: each fault is told exactly when document 01's table has it, and what is accepted is a net of the model.
 -- Assumes nothing.
 use Rattle.std.proofs.Common.{Ok, Err}
-use mathlib.Core.Path.{◌≡◌, refl, ap, ◌∙◌}
-use mathlib.Core.Bool.{true, false}
+use mathlib.Core.Path.{◌≡◌, refl, sym, ap, ◌∙◌}
+use mathlib.Core.Bool.{Bool, true, false}
 use mathlib.Core.Logic.{◌↔◌}
 use mathlib.Core.List.{List}
 use Prim.Native.Nat.{ℕ, suc, ◌+◌, ◌<◌, ◌≤◌, max}
+use Rattle.std.proofs.Common.{Option, map, zero}
+use Rattle.std.specs.List.{fold, reduce, range_with_len}
+use Rattle.std.specs.Option.{unwrap_or}
+use Rattle.std.specs.Ordering.{max_by_ordering, nat_cmp}
+use Rattle.std.proofs.lemmas.List.Folds.{max_of_map}
 use native.Mathlib.Numerals.{add-one}
 use native.Mathlib.Omega.{arith}
 use lib.Dec.{eqb}
@@ -15,7 +20,8 @@ use Rattle.model.specs.Tab.{Tells, largest}
 use Rattle.model.specs.Limits.{place_limit, transition_limit, duration_limit, is_sized, IsInterval, is_interval, shape_of}
 use Rattle.model.specs.Net.{Net, HasInput, HasOutput, Accepted, width}
 use Rattle.model.proofs.Tab.{both-tell, all-tells}
-use Rattle.model.proofs.Tests.{tells_as, leb_tells, eqb_tells, not-tells, sized-tells, interval-tells, some-fails}
+use Rattle.model.proofs.Tests.{tells_as, leb_tells, eqb_tells, not-tells, sized-tells, interval-tells, some-fails, told-true, told-false}
+use Rattle.model.proofs.Alls.{not_yet}
 use Rattle.forms.specs.declared.fault.Fault.{Fault}
 use Rattle.forms.specs.declared.fault.Fault.TheVariants as fault
 use Rattle.forms.specs.Checked.{in_turn}
@@ -58,6 +64,11 @@ some-weight-tells n f =
   where
     above : (k : ℕ) → ¬ (k ≡ 0) → 0 < k
     above k h = omega arith
+
+-- what is found exactly where some weight is above 0 is the test
+pub weight_found : (n : ℕ) (f : ℕ → ℕ) (found : Bool) → (found ≡ true) ↔ ((p : ℕ) × (p < n) × (0 < f p)) → found ≡ has_some_weight n f
+weight_found n f true h = sym (told-true (some-weight-tells n f) (h.0 refl))
+weight_found n f false h = sym (told-false (some-weight-tells n f) (λ some. not_yet (h.1 some)))
 
 -- THE ANSWERS OF `check_net`
 
@@ -206,17 +217,28 @@ module _ (b : List ℕ) (n : IsNet b) where
   pub lfd-short : (t : ℕ) → t < byte b 6 → (net_of b).lfd t ≤ duration_limit
   lfd-short t h = (n.rows t h).interval.1
 
--- a turn of the loop that looks for the longest duration
-pub longest-turn : (f : ℕ → ℕ) (t l l' d : ℕ) → l ≡ largest t f → d ≡ f t → l' ≡ max d l → l' ≡ largest (t + 1) f
+-- the largest so far, as each number is looked at in turn
+largest-on : (f : ℕ → ℕ) (n a m : ℕ) → m ≡ largest a f → fold (λ m t. max m (f t)) m (range_with_len a n) ≡ largest (a + n) f
 unfolding largest
-longest-turn f t l l' d e g h = rw add-one (omega arith)
+largest-on f zero a m e = let none : a + 0 ≡ a = omega arith in rw none e
+largest-on f (suc n) a m e =
+    let next : a + suc n ≡ a + 1 + n = omega arith in
+    rw next (largest-on f n (a + 1) (max m (f a)) (rw add-one (omega arith)))
 
--- the shape that the loop finds
-pub shape-found : (b : List ℕ) (shape : Shape) (P T l t : ℕ) → shape ≡ shape_of P T (l + 1) → P ≡ byte b 5 → T ≡ byte b 6
-    → l ≡ largest t (net_of b).lfd → t ≡ T → HasShape (net_of b) shape
+-- the largest of all
+pub largest_of : (f : ℕ → ℕ) (n : ℕ) (most : Option ℕ) → most ≡ reduce (λ x y. max_by_ordering (nat_cmp x y) x y) (map f (range_with_len 0 n))
+    → unwrap_or most 0 ≡ largest n f
+unfolding largest
+largest_of f n most e =
+    let all : 0 + n ≡ n = omega arith in
+    rw e (max_of_map f (range_with_len 0 n) ∙ largest-on f n 0 0 refl ∙ rw all)
+
+-- the shape whose width is one more than the longest duration
+pub shape-found : (b : List ℕ) (shape : Shape) (P T l : ℕ) → shape ≡ shape_of P T (l + 1) → P ≡ byte b 5 → T ≡ byte b 6
+    → l ≡ largest T (net_of b).lfd → HasShape (net_of b) shape
 unfolding net_of width
-shape-found b shape P T l t s p q e h = record {
+shape-found b shape P T l s p q e = record {
   places_are = ap (λ (x : Shape). x.places) s ∙ p;
   transitions_are = ap (λ (x : Shape). x.transitions) s ∙ q;
-  width_is = ap (λ (x : Shape). x.width) s ∙ add-one l ∙ ap suc (e ∙ rw (h ∙ q));
+  width_is = ap (λ (x : Shape). x.width) s ∙ add-one l ∙ ap suc (e ∙ rw q);
 }

@@ -1,19 +1,17 @@
 -- The check of one transition, and of all in turn, as the code goes through them.
 -- Assumes nothing.
-use Rattle.std.proofs.Common.{Ok, Err}
+use Rattle.std.proofs.lemmas.List.{get_or-take, get_or-drop, length-take}
+use Rattle.std.proofs.Common.{zero, suc, refl, ap, not, eqb, ◌-◌, length, length-drop, take, drop}
 use mathlib.Core.Path.{◌≡◌, ◌∙◌}
-use mathlib.Core.Bool.{true, false}
 use mathlib.Core.List.{List}
 use Prim.Native.Nat.{ℕ, ◌+◌, ◌<◌, ◌≤◌}
 use native.Mathlib.Nat.{mul-le-mul_right}
 use native.Mathlib.Omega.{arith}
-use Rattle.model.specs.Limits.{is_interval}
-use Rattle.model.specs.Net.{Net}
-use Rattle.forms.specs.declared.fault.Fault.TheVariants as fault
+use Rattle.model.specs.Tab.{all}
 use Rattle.forms.specs.Word.{byte}
-use Rattle.forms.specs.Places.{row_at, row_length, lfd_at, inputs_at, outputs_at}
+use Rattle.forms.specs.Places.{row_at, row_length, lfd_at}
 use Rattle.forms.specs.Stored.{net_of}
-use Rattle.forms.specs.Nets.{has_some_weight, check_row}
+use Rattle.forms.specs.Nets.{has_some_weight}
 
 -- WHERE A ROW STANDS
 
@@ -35,34 +33,24 @@ module _ (net : List ℕ) (t P : ℕ) (p : P ≡ byte net 5) where
   unfolding net_of
   lfd-is at w r e = e ∙ rw (r, p)
 
-  pub takes-are : (at : ℕ) → at ≡ inputs_at P t
-      → has_some_weight P (λ i. byte net (at + i)) ≡ has_some_weight (net_of net).places ((net_of net).takes t)
-  unfolding net_of
-  takes-are at r = rw (r, p)
+-- the weights in a part of a net, as the net has them
+pub weights_within : (net : List ℕ) (at n : ℕ) → at + n ≤ length net
+    → has_some_weight (length (take n (take (length net - at) (drop at net)))) (byte (take n (take (length net - at) (drop at net))))
+    ≡ has_some_weight n (λ i. byte net (at + i))
+unfolding has_some_weight all
+weights_within net at n room =
+    let long : length part ≡ n = simp (length-take, length-drop) (omega arith) in
+    rw long (ap not (same n (omega arith)))
+  where
+    part : List ℕ
+    part = take n (take (length net - at) (drop at net))
 
-  pub gives-are : (at : ℕ) → at ≡ outputs_at P t
-      → has_some_weight P (λ i. byte net (at + i)) ≡ has_some_weight (net_of net).places ((net_of net).gives t)
-  unfolding net_of
-  gives-are at r = rw (r, p)
+    inside : (i : ℕ) → i < n → byte part i ≡ byte net (at + i)
+    inside i h =
+        get_or-take n (take (length net - at) (drop at net)) i 0 h
+        ∙ get_or-take (length net - at) (drop at net) i 0 (omega arith)
+        ∙ get_or-drop at net i 0
 
--- THE ANSWERS OF `check_row`
-
-module _ (N : Net) (t : ℕ) where
-  pub row-no-interval : is_interval (N.sfd t) (N.lfd t) ≡ false → Err (fault.NoInterval t) ≡ check_row N t
-  unfolding check_row
-  row-no-interval i = rw i
-
-  pub row-no-input : is_interval (N.sfd t) (N.lfd t) ≡ true → has_some_weight N.places (N.takes t) ≡ false
-      → Err (fault.NoInput t) ≡ check_row N t
-  unfolding check_row
-  row-no-input i w = rw (i, w)
-
-  pub row-no-output : is_interval (N.sfd t) (N.lfd t) ≡ true → has_some_weight N.places (N.takes t) ≡ true
-      → has_some_weight N.places (N.gives t) ≡ false → Err (fault.NoOutput t) ≡ check_row N t
-  unfolding check_row
-  row-no-output i w v = rw (i, w, v)
-
-  pub row-good : is_interval (N.sfd t) (N.lfd t) ≡ true → has_some_weight N.places (N.takes t) ≡ true
-      → has_some_weight N.places (N.gives t) ≡ true → Ok tt ≡ check_row N t
-  unfolding check_row
-  row-good i w v = rw (i, w, v)
+    same : (k : ℕ) → k ≤ n → all k (λ i. eqb (byte part i) 0) ≡ all k (λ i. eqb (byte net (at + i)) 0)
+    same zero h = refl
+    same (suc k) h = rw (inside k h, same k (omega arith))

@@ -7,12 +7,10 @@ use crate::words;
 pub const VERSION: u8 = 1;
 
 // The bytes begin with the version and this length.
+#[tactic(auto, unfolding(crate::specs::Begins::begins_with))]
 pub fn begins(bytes: &[u8], long: usize) -> bool
     requires { 5 ≤ length bytes.now }
     ensures { result ≡ begins_with bytes.now long }
 {
-    if bytes[0] != VERSION {
-        return false;
-    }
-    words::read32(bytes, 1) == long
+    bytes[0] == VERSION && words::read32(bytes, 1) == long
 }

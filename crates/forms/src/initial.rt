@@ -27,15 +27,9 @@ fn write_marking(net: &[u8], places: usize, state: &mut [u8])
     requires { (places < 256) × (initial_at places ≤ length net.now) × (mark_at places ≤ length state.old) }
     ensures { state.new ≡ put_words 8 places (λ p. word net.now (initial_at p)) state.old }
 {
-    let mut p = 0;
-    while p < places {
-        words::write16(
-            state,
-            places::mark_at(p),
-            words::read16(net, places::initial_at(p)),
-        );
-        p += 1;
-    }
+    let marks = places::mark_at(0)..places::mark_at(places);
+    let initials = places::initial_at(0)..places::initial_at(places);
+    state[marks].copy_from_slice(&net[initials]);
 }
 
 // Writes the whole image of the initial state at the front of the buffer, where there is room.

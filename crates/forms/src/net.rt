@@ -12,31 +12,22 @@ use crate::{begins, places, words};
 use model::net::Net;
 
 // At least 7 bytes, version 1, and the length is the slice's.
+#[tactic(auto, unfolding(crate::specs::Nets::has_net_head))]
 fn has_head(net: &[u8]) -> bool
     ensures { result ≡ has_net_head net.now }
 {
-    if net.len() < 7 {
-        return false;
-    }
-    begins::begins(net, net.len())
+    7 <= net.len() && begins::begins(net, net.len())
 }
 
-// Some of the n weights from `from` on is above 0.
-fn some_weight(net: &[u8], from: usize, n: usize) -> bool
-    requires { from + n ≤ length net.now }
-    ensures { result ≡ has_some_weight n (λ p. byte net.now (from + p)) }
+// Some weight is above 0.
+fn some_weight(weights: &[u8]) -> bool
+    ensures { result ≡ has_some_weight (length weights.now) (byte weights.now) }
 {
-    let mut p = 0;
-    while p < n {
-        if net[from + p] != 0 {
-            return true;
-        }
-        p += 1;
-    }
-    false
+    weights.iter().any(|weight| *weight != 0)
 }
 
 // Transition t: its interval, its input weights, its output weights.
+#[tactic(auto, using(crate::proofs::Rows::weights_within), unfolding(crate::specs::Nets::check_row, crate::specs::Stored::net_of))]
 fn check_row(net: &[u8], t: usize) -> Result<(), Fault>
     requires { (7 ≤ length net.now) × (t < 256) × (row_at (byte net.now 5) t + row_length (byte net.now 5) ≤ length net.now) }
     ensures { result ≡ check_row (net_of net.now) t }
@@ -47,10 +38,10 @@ fn check_row(net: &[u8], t: usize) -> Result<(), Fault>
     if !Net::is_interval(sfd, lfd) {
         return Err(Fault::NoInterval(t));
     }
-    if !some_weight(net, places::inputs_at(places, t), places) {
+    if !some_weight(&net[places::inputs_at(places, t)..][..places]) {
         return Err(Fault::NoInput(t));
     }
-    if !some_weight(net, places::outputs_at(places, t), places) {
+    if !some_weight(&net[places::outputs_at(places, t)..][..places]) {
         return Err(Fault::NoOutput(t));
     }
     Ok(())
@@ -91,15 +82,7 @@ pub fn shape_of(net: &[u8]) -> Net
 {
     let places = words::wide(net[places::PLACES_AT]);
     let transitions = words::wide(net[places::TRANSITIONS_AT]);
-    let mut longest = 0;
-    let mut t = 0;
-    while t < transitions {
-        let duration = lfd(net, t);
-        if longest < duration {
-            longest = duration;
-        }
-        t += 1;
-    }
+    let longest = (0..transitions).map(|t| lfd(net, t)).max().unwrap_or(0);
     Net::new(places, transitions, longest + 1)
 }
 

@@ -12,27 +12,18 @@ use model::age::Age;
 use model::net::Net;
 
 // Version 1, P, T and D the net's, the length the formula's, and the buffer at least as long.
+#[tactic(auto, unfolding(crate::specs::States::has_head))]
 fn has_head(shape: Net, state: &[u8]) -> bool
     requires { (shape.places < 256) × (shape.transitions < 256) × (shape.width ≤ 256) }
     ensures { result ≡ has_head shape.places shape.transitions shape.width state.now }
 {
-    if state.len() < 8 {
-        return false;
-    }
     let length = places::state_length(shape);
-    if !begins::begins(state, length) {
-        return false;
-    }
-    if words::wide(state[places::PLACES_AT]) != shape.places {
-        return false;
-    }
-    if words::wide(state[places::TRANSITIONS_AT]) != shape.transitions {
-        return false;
-    }
-    if words::wide(state[places::WIDTH_AT]) != shape.width {
-        return false;
-    }
-    length <= state.len()
+    8 <= state.len()
+        && begins::begins(state, length)
+        && words::wide(state[places::PLACES_AT]) == shape.places
+        && words::wide(state[places::TRANSITIONS_AT]) == shape.transitions
+        && words::wide(state[places::WIDTH_AT]) == shape.width
+        && length <= state.len()
 }
 
 // Transition t: no count stands at an age above its lfd.

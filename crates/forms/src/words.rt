@@ -6,7 +6,7 @@ ghost use Rattle.forms.specs.Word.{word, word32, is_blank, set_word, set_word32,
 pub fn wide(x: u8) -> usize
     ensures { (result ≡ x) × (result < 256) }
 {
-    x as usize
+    usize::from(x)
 }
 
 // The word of two bytes that starts at `at`.
@@ -14,7 +14,7 @@ pub fn read16(s: &[u8], at: usize) -> usize
     requires { at + 1 < length s.now }
     ensures { (result ≡ word s.now at) × (result < 65536) }
 {
-    256 * wide(s[at]) + wide(s[at + 1])
+    usize::from(u16::from_be_bytes([s[at], s[at + 1]]))
 }
 
 // The word of four bytes that starts at `at`.
@@ -22,7 +22,7 @@ pub fn read32(s: &[u8], at: usize) -> usize
     requires { at + 3 < length s.now }
     ensures { result ≡ word32 s.now at }
 {
-    65536 * read16(s, at) + read16(s, at + 2)
+    u32::from_be_bytes([s[at], s[at + 1], s[at + 2], s[at + 3]]) as usize
 }
 
 // The n words of two bytes from `at` on are all 0. It looks at every byte, which compiles to wide steps; a way out at the first
@@ -31,14 +31,7 @@ pub fn blank(s: &[u8], at: usize, n: usize) -> bool
     requires { at + 2 * n ≤ length s.now }
     ensures { result ≡ is_blank s.now at n }
 {
-    let bytes = 2 * n;
-    let mut seen: u8 = 0;
-    let mut i = 0;
-    while i < bytes {
-        seen = seen | s[at + i];
-        i += 1;
-    }
-    seen == 0
+    s[at..at + 2 * n].iter().fold(0, |seen, byte| seen | *byte) == 0
 }
 
 // Writes `v` as the word of two bytes that starts at `at`.
@@ -46,8 +39,7 @@ pub fn write16(s: &mut [u8], at: usize, v: usize)
     requires { (at + 1 < length s.old) × (v < 65536) }
     ensures { s.new ≡ set_word s.old at v }
 {
-    s[at] = (v / 256) as u8;
-    s[at + 1] = (v % 256) as u8;
+    s[at..at + 2].copy_from_slice(&(v as u16).to_be_bytes());
 }
 
 // Writes `v` as the word of four bytes that starts at `at`.
@@ -55,8 +47,7 @@ pub fn write32(s: &mut [u8], at: usize, v: usize)
     requires { (at + 3 < length s.old) × (v < 4294967296) }
     ensures { s.new ≡ set_word32 s.old at v }
 {
-    write16(s, at, v / 65536);
-    write16(s, at + 2, v % 65536);
+    s[at..at + 4].copy_from_slice(&(v as u32).to_be_bytes());
 }
 
 // Writes 0 as the n words of two bytes from `at` on.
@@ -64,9 +55,5 @@ pub fn clear(s: &mut [u8], at: usize, n: usize)
     requires { at + 2 * n ≤ length s.old }
     ensures { s.new ≡ put_words at n (λ i. 0) s.old }
 {
-    let mut i = 0;
-    while i < n {
-        write16(s, at + 2 * i, 0);
-        i += 1;
-    }
+    s[at..at + 2 * n].fill(0);
 }

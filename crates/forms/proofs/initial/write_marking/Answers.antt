@@ -1,22 +1,10 @@
--- `initial::write_marking` meets its contract. The loop keeps that the first p words are written.
-use mathlib.Core.Path.{refl}
-use native.Mathlib.Omega.{arith}
-use Rattle.forms.specs.Word.{word}
-use Rattle.forms.specs.Places.{initial_at}
-use Rattle.forms.proofs.Runs.{put-begin, put-turn}
+-- `initial::write_marking` meets its contract: the net's words are copied.
+use Rattle.std.proofs.Common.{arith}
+use Rattle.forms.proofs.WordBytes.{put_copied}
 use Rattle.forms.proofs.initial.write_marking.Goals as goal
 
-pub loop-p-init : goal.loop-p-init
-loop-p-init c =
-    let a = c.args in (omega arith, refl, put-begin 8 (λ p. word a.net.now (initial_at p)) a.state.now)
-
-pub loop-p-preserved : goal.loop-p-preserved
-loop-p-preserved c =
+pub returns : goal.returns
+returns c =
     let a = c.args in
-    let wrote = rw c.mark_at.ensures at c.write16.ensures in
-    let read = rw c.initial_at.ensures at c.read16.ensures.0 in (
-      omega arith,
-      omega arith,
-      put-turn 8 (λ p. word a.net.now (initial_at p)) a.state.now c.loop-p.p c.loop-p.state _ c.read16.result
-          c.loop-p.invariant.2 wrote read,
-    )
+    rw (c.copy_from_slice.ensures.after, c.mark_at.ensures, c.mark_at-2.ensures, c.initial_at.ensures, c.initial_at-2.ensures)
+    (put_copied a.state.now a.net.now 8 7 a.places c.requires.2 c.requires.1 (λ i. omega (arith, c.type_inv.net i)))

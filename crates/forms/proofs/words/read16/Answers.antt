@@ -1,5 +1,5 @@
 -- `words::read16` meets its contract: its two reads are `word`'s own.
-use borrow.Author.Rules.{rules}
+use Rattle.std.proofs.Common.{rules}
 use Rattle.forms.specs.Word.{word}
 use Rattle.forms.proofs.words.read16.Goals as goal
 
