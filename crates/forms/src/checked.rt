@@ -1,6 +1,5 @@
 // A checked net: its bytes, and its shape, which is found once and goes with them from call to call.
-ghost use Rattle.std.specs.Prelude.{◌≡◌, ◌<◌, Ok, MatchResult};
-ghost use Rattle.forms.specs.Word.{byte};
+ghost use Rattle.std.specs.Prelude.{◌≡◌, ◌<◌, ◌≤◌, Ok, MatchResult};
 ghost use Rattle.forms.specs.Nets.{check_net};
 ghost use Rattle.forms.specs.Stored.{net_of};
 ghost use Rattle.forms.specs.Frame.{HasShape};
@@ -15,6 +14,8 @@ pub struct CheckedNet<'a> {
     pub shape: Net,
     ghost passes: { check_net bytes.now ≡ Ok tt },
     ghost has_shape: { HasShape (net_of bytes.now) shape },
+    ghost column: { 0 < shape.width },
+    ghost small: { (shape.places < 256) × (shape.transitions < 256) × (shape.width ≤ 256) },
 }
 
 impl<'a> CheckedNet<'a> {
@@ -31,7 +32,7 @@ impl<'a> CheckedNet<'a> {
 
     // The shortest duration of transition t.
     pub fn sfd(self, t: usize) -> usize
-        requires { t < byte self.bytes.now 6 }
+        requires { t < self.shape.transitions }
         ensures { result ≡ (net_of self.entry.bytes.now).sfd t }
     {
         words::wide(self.bytes[places::row_at(self.shape.places, t)])
@@ -39,7 +40,7 @@ impl<'a> CheckedNet<'a> {
 
     // The longest duration of transition t. The bound leaves room for every width that fits its byte.
     pub fn lfd(self, t: usize) -> usize
-        requires { t < byte self.bytes.now 6 }
+        requires { t < self.shape.transitions }
         ensures { (result ≡ (net_of self.entry.bytes.now).lfd t) × (result < 255) }
     {
         words::wide(self.bytes[places::lfd_at(self.shape.places, t)])

@@ -1,6 +1,5 @@
 // The check of a state's bytes, numbers 8 and 9.
 ghost use Rattle.std.specs.Prelude.{◌≡◌, ◌<◌, ◌≤◌};
-ghost use Rattle.forms.specs.Word.{byte};
 ghost use Rattle.forms.specs.Checked.{in_turn};
 ghost use Rattle.forms.specs.Stored.{net_of};
 ghost use Rattle.forms.specs.States.{StateHead, has_head, check_counts, check_state};
@@ -29,7 +28,7 @@ fn has_head(shape: Net, state: &[u8]) -> bool
 // Transition t: no count stands at an age above its lfd.
 fn check_counts(net: CheckedNet, state: &[u8], t: usize) -> Result<(), Fault>
     requires state_head { StateHead (net_of net.bytes.now) state.now }
-    requires t_bound { t < byte net.bytes.now 6 }
+    requires t_bound { t < net.shape.transitions }
     ensures { result ≡ check_counts (net_of net.entry.bytes.now) state.now t }
 {
     let above = net.lfd(t) + 1;

@@ -1,16 +1,10 @@
 -- `state::check_all_counts` meets its contract. The loop keeps that the transitions that are left give the answer of all.
-use Rattle.std.proofs.Common.{rules, arith}
-use Rattle.forms.proofs.CheckedNets.{framed_net}
-use Rattle.forms.proofs.States.{transitions-same}
+use Rattle.std.proofs.Common.{rules}
 use Rattle.forms.proofs.Turns.{left-begin, left-turn, left-stop, left_end}
 use Rattle.forms.proofs.state.check_all_counts.Goals as goal
 
 pub loop-t-init : goal.loop-t-init
 loop-t-init c = left-begin _ _
-
-pub check_counts-requires-clause-t_bound : goal.check_counts-requires-clause-t_bound
-check_counts-requires-clause-t_bound c =
-    omega (arith, c.loop-t-test.true, transitions-same c.args.net.bytes.now c.args.net.shape (framed_net c.args.net))
 
 pub returns-in_err-check_counts : goal.returns-in_err-check_counts
 returns-in_err-check_counts c = search (rules, left-stop)

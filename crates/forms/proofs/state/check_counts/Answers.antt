@@ -6,24 +6,24 @@ use native.Mathlib.Omega.{arith}
 use Rattle.model.proofs.Alls.{passed, failed}
 use Rattle.forms.specs.Stored.{net_of}
 use Rattle.forms.specs.States.{has_none_past}
-use Rattle.forms.proofs.CheckedNets.{framed_net}
-use Rattle.forms.proofs.States.{places-small, width_small, lfd-below, counts-inside, past_is}
+use Rattle.forms.proofs.CheckedNets.{framed_net, known}
+use Rattle.forms.proofs.States.{lfd-below, counts-inside, past_is}
 use Rattle.forms.proofs.state.check_counts.Goals as goal
 
 pub overflow_sub-net : goal.overflow_sub-net
 overflow_sub-net c =
-    omega (arith, lfd-below c.args.net.bytes.now c.args.net.shape (framed_net c.args.net) c.args.t c.requires.t_bound, c.lfd-above.ensures.0)
+    omega (arith, lfd-below c.args.net.bytes.now c.args.net.shape (framed_net c.args.net) c.args.t (known c.args.net c.requires.t_bound), c.lfd-above.ensures.0)
 
 pub count_at-at-requires : goal.count_at-at-requires
 count_at-at-requires c =
-    let f = framed_net c.args.net in
     let column : c.column.result.0 ≡ c.lfd-above.result + 1 + 1 = ap (λ (x : Column). x.0) c.column.ensures in
-    (omega (arith, places-small _ _ f), omega (arith, width_small _ _ f), omega (arith, c.requires.t_bound), omega (arith, column), omega (arith, column, c.lfd-above.ensures.1))
+    let s = c.args.net.small in
+    (s.0, s.2, omega (arith, s.1, c.requires.t_bound), omega (arith, column), omega (arith, column, c.lfd-above.ensures.1))
 
 pub blank-requires : goal.blank-requires
 blank-requires c =
-    counts-inside c.args.net.bytes.now c.args.net.shape (framed_net c.args.net) c.args.state.now c.args.t _ _ c.column.result c.requires.state_head c.requires.t_bound
-    (omega (arith, lfd-below c.args.net.bytes.now c.args.net.shape (framed_net c.args.net) c.args.t c.requires.t_bound, c.lfd-above.ensures.0))
+    counts-inside c.args.net.bytes.now c.args.net.shape (framed_net c.args.net) c.args.state.now c.args.t _ _ c.column.result c.requires.state_head (known c.args.net c.requires.t_bound)
+    (omega (arith, lfd-below c.args.net.bytes.now c.args.net.shape (framed_net c.args.net) c.args.t (known c.args.net c.requires.t_bound), c.lfd-above.ensures.0))
     c.column.ensures c.count_at-at.ensures
 
 pub returns-then-not-blank : goal.returns-then-not-blank

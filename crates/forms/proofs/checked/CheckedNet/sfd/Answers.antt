@@ -2,19 +2,15 @@
 use native.Mathlib.Omega.{arith}
 use Rattle.forms.proofs.Rows.{row_here, sfd-is}
 use Rattle.forms.proofs.Nets.{row_inside}
-use Rattle.forms.proofs.States.{places-small, places_same}
-use Rattle.forms.proofs.CheckedNets.{framed_net}
+use Rattle.forms.proofs.States.{places_same}
+use Rattle.forms.proofs.CheckedNets.{framed_net, known}
 use Rattle.forms.proofs.checked.CheckedNet.sfd.Goals as goal
-
-pub row_at-requires : goal.row_at-requires
-row_at-requires c =
-    let f = framed_net c.args.self in (omega (arith, places-small _ _ f), omega (arith, c.requires))
 
 pub bounds-self-row_at : goal.bounds-self-row_at
 bounds-self-row_at c =
     let n = c.args.self in
     let f = framed_net n in
-    omega (arith, c.row_at.ensures.0, row_here n.bytes.now c.args.t n.shape.places (places_same _ _ f) (row_inside n.bytes.now f.is_net c.args.t c.requires))
+    omega (arith, c.row_at.ensures.0, row_here n.bytes.now c.args.t n.shape.places (places_same _ _ f) (row_inside n.bytes.now f.is_net c.args.t (known n c.requires)))
 
 pub returns : goal.returns
 returns c =
