@@ -29,13 +29,13 @@ pub struct WalkTold {
     pub ticks: usize,
 }
 
-impl RunTold {
-    // Of what a call was given: nothing was done.
-    pub fn unfit(fault: Fault) -> RunTold
-        ensures { result ≡ run_fault fault }
-    {
+// Of what a call was given: nothing was done.
+impl From<Fault> for RunTold {
+    ghost from_gives = { λ fault told. told ≡ run_fault fault };
+
+    fn from(fault: Fault) -> RunTold {
         RunTold {
-            number: fault.number(),
+            number: fault.into(),
             index: fault.index(),
             done: 0,
             ticks: 0,
@@ -45,13 +45,12 @@ impl RunTold {
     }
 }
 
-impl WalkTold {
-    // Of what a call was given: nothing was done.
-    pub fn unfit(fault: Fault) -> WalkTold
-        ensures { result ≡ walk_fault fault }
-    {
+impl From<Fault> for WalkTold {
+    ghost from_gives = { λ fault told. told ≡ walk_fault fault };
+
+    fn from(fault: Fault) -> WalkTold {
         WalkTold {
-            number: fault.number(),
+            number: fault.into(),
             index: fault.index(),
             done: 0,
             ticks: 0,
