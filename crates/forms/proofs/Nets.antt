@@ -242,3 +242,6 @@ shape-found b shape P T l s p q e = record {
   transitions_are = ap (λ (x : Shape). x.transitions) s ∙ q;
   width_is = ap (λ (x : Shape). x.width) s ∙ add-one l ∙ ap suc (e ∙ rw q);
 }
+
+-- for whoever passes a check
+pub ruleset checks = (net-exact, net-faulty)

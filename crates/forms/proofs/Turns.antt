@@ -122,3 +122,6 @@ module _ (check : ℕ → Checked) (n : ℕ) where
       go (Err told) (Turned.first_bad u p q g' b') (t, l, g, b) =
           below-or-past t u (λ h. never (sym (g' t (omega arith) h) ∙ b))
           (λ h. at-or-below u t h (λ e. sym b' ∙ rw e b) (λ k. never (sym (g u k) ∙ b')))
+
+-- a loop over the checks, one after the other
+pub ruleset turns = (left-begin, left-turn, left-stop, left_end)

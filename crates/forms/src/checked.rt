@@ -20,6 +20,7 @@ pub struct CheckedNet<'a> {
 
 impl<'a> CheckedNet<'a> {
     // Checks the bytes of a net: 1 to 6.
+    #[tactic(auto, using(crate::proofs::Nets::checks))]
     pub fn of(bytes: &'a [u8]) -> Result<CheckedNet<'a>, Fault>
         ensures { MatchResult result (λ net. (check_net bytes.now ≡ Ok tt) × (net.bytes ≡ bytes.entry)) (λ fault. check_net bytes.now ≡ Err fault) }
     {
@@ -31,18 +32,20 @@ impl<'a> CheckedNet<'a> {
     }
 
     // The shortest duration of transition t.
+    #[tactic(auto, using(crate::proofs::CheckedNets::limits), unfolding(crate::specs::Stored::net_of))]
     pub fn sfd(self, t: usize) -> usize
         requires { t < self.shape.transitions }
         ensures { result ≡ (net_of self.entry.bytes.now).sfd t }
     {
-        words::wide(self.bytes[places::row_at(self.shape.places, t)])
+        usize::from(self.bytes[places::row_at(self.shape.places, t)])
     }
 
     // The longest duration of transition t. The bound leaves room for every width that fits its byte.
+    #[tactic(auto, using(crate::proofs::CheckedNets::limits), unfolding(crate::specs::Stored::net_of))]
     pub fn lfd(self, t: usize) -> usize
         requires { t < self.shape.transitions }
         ensures { (result ≡ (net_of self.entry.bytes.now).lfd t) × (result < 255) }
     {
-        words::wide(self.bytes[places::lfd_at(self.shape.places, t)])
+        usize::from(self.bytes[places::lfd_at(self.shape.places, t)])
     }
 }

@@ -11,6 +11,7 @@ use crate::{begins, places, words};
 use model::net::Net;
 
 // Version, length, P, T, D.
+#[tactic(auto, unfolding(crate::specs::Written::headed))]
 fn write_head(shape: Net, state: &mut [u8])
     requires { (shape.places < 256) × (shape.transitions < 256) × (shape.width < 256) × (8 ≤ length state.old) }
     ensures { state.new ≡ headed shape.places shape.transitions shape.width state.old }
@@ -33,6 +34,7 @@ fn write_marking(net: &[u8], places: usize, state: &mut [u8])
 }
 
 // Writes the whole image of the initial state at the front of the buffer, where there is room.
+#[tactic(auto, using(crate::proofs::CheckedNets::limits), unfolding(crate::specs::Places::state_length))]
 pub fn initial(net: CheckedNet, state: &mut [u8]) -> Result<(), Fault>
     ensures { (result ≡ check_room (net_of net.entry.bytes.now) state.old) × (state.new ≡ after_initial (net_of net.entry.bytes.now) state.old) }
 {

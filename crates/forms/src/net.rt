@@ -20,6 +20,7 @@ fn has_head(net: &[u8]) -> bool
 }
 
 // Some weight is above 0.
+#[tactic(auto, using(crate::proofs::Nets::weight_found))]
 fn some_weight(weights: &[u8]) -> bool
     ensures { result ≡ has_some_weight (length weights.now) (byte weights.now) }
 {
@@ -32,9 +33,9 @@ fn check_row(net: &[u8], t: usize) -> Result<(), Fault>
     requires { (7 ≤ length net.now) × (t < 256) × (row_at (byte net.now 5) t + row_length (byte net.now 5) ≤ length net.now) }
     ensures { result ≡ check_row (net_of net.now) t }
 {
-    let places = words::wide(net[places::PLACES_AT]);
-    let sfd = words::wide(net[places::row_at(places, t)]);
-    let lfd = words::wide(net[places::lfd_at(places, t)]);
+    let places = usize::from(net[places::PLACES_AT]);
+    let sfd = usize::from(net[places::row_at(places, t)]);
+    let lfd = usize::from(net[places::lfd_at(places, t)]);
     if !Net::is_interval(sfd, lfd) {
         return Err(Fault::NoInterval(t));
     }
@@ -48,11 +49,12 @@ fn check_row(net: &[u8], t: usize) -> Result<(), Fault>
 }
 
 // The transitions in turn, from the lowest.
+#[tactic(auto, using(crate::proofs::Rows::row_within, crate::proofs::Turns::turns))]
 fn check_rows(net: &[u8]) -> Result<(), Fault>
     requires { (7 ≤ length net.now) × (row_at (byte net.now 5) (byte net.now 6) ≤ length net.now) }
     ensures { result ≡ in_turn (check_row (net_of net.now)) 0 (byte net.now 6) }
 {
-    let transitions = words::wide(net[places::TRANSITIONS_AT]);
+    let transitions = usize::from(net[places::TRANSITIONS_AT]);
     for t in 0..transitions {
         check_row(net, t)?;
     }
@@ -60,19 +62,21 @@ fn check_rows(net: &[u8]) -> Result<(), Fault>
 }
 
 // The shortest duration of transition t of a checked net.
+#[tactic(auto, unfolding(crate::specs::Stored::net_of))]
 pub fn sfd(net: &[u8], t: usize) -> usize
     requires { IsNet net.now × (t < byte net.now 6) }
     ensures { result ≡ (net_of net.now).sfd t }
 {
-    words::wide(net[places::row_at(words::wide(net[places::PLACES_AT]), t)])
+    usize::from(net[places::row_at(usize::from(net[places::PLACES_AT]), t)])
 }
 
 // The longest duration of transition t of a checked net. The bound leaves room for every width that fits its byte.
+#[tactic(auto, unfolding(crate::specs::Stored::net_of))]
 pub fn lfd(net: &[u8], t: usize) -> usize
     requires { IsNet net.now × (t < byte net.now 6) }
     ensures { (result ≡ (net_of net.now).lfd t) × (result < 255) }
 {
-    words::wide(net[places::lfd_at(words::wide(net[places::PLACES_AT]), t)])
+    usize::from(net[places::lfd_at(usize::from(net[places::PLACES_AT]), t)])
 }
 
 // The shape of a checked net: its width is one more than the longest duration.
@@ -80,21 +84,22 @@ pub fn shape_of(net: &[u8]) -> Net
     requires { IsNet net.now }
     ensures { HasShape (net_of net.now) result }
 {
-    let places = words::wide(net[places::PLACES_AT]);
-    let transitions = words::wide(net[places::TRANSITIONS_AT]);
+    let places = usize::from(net[places::PLACES_AT]);
+    let transitions = usize::from(net[places::TRANSITIONS_AT]);
     let longest = (0..transitions).map(|t| lfd(net, t)).max().unwrap_or(0);
     Net::new(places, transitions, longest + 1)
 }
 
 // Checks the bytes of a net.
+#[tactic(auto, unfolding(crate::specs::Nets::check_net, crate::specs::Nets::has_net_head))]
 pub fn check_net(net: &[u8]) -> Result<(), Fault>
     ensures { result ≡ check_net net.now }
 {
     if !has_head(net) {
         return Err(Fault::NetFrame);
     }
-    let places = words::wide(net[places::PLACES_AT]);
-    let transitions = words::wide(net[places::TRANSITIONS_AT]);
+    let places = usize::from(net[places::PLACES_AT]);
+    let transitions = usize::from(net[places::TRANSITIONS_AT]);
     if !Net::sized(places, transitions) {
         return Err(Fault::NetSize);
     }

@@ -19,13 +19,14 @@ fn has_head(shape: Net, state: &[u8]) -> bool
     let length = places::state_length(shape);
     8 <= state.len()
         && begins::begins(state, length)
-        && words::wide(state[places::PLACES_AT]) == shape.places
-        && words::wide(state[places::TRANSITIONS_AT]) == shape.transitions
-        && words::wide(state[places::WIDTH_AT]) == shape.width
+        && usize::from(state[places::PLACES_AT]) == shape.places
+        && usize::from(state[places::TRANSITIONS_AT]) == shape.transitions
+        && usize::from(state[places::WIDTH_AT]) == shape.width
         && length <= state.len()
 }
 
 // Transition t: no count stands at an age above its lfd.
+#[tactic(auto, using(crate::proofs::CheckedNets::limits), unfolding(crate::specs::States::has_none_past, crate::specs::Stored::net_of))]
 fn check_counts(net: CheckedNet, state: &[u8], t: usize) -> Result<(), Fault>
     requires state_head { StateHead (net_of net.bytes.now) state.now }
     requires t_bound { t < net.shape.transitions }
@@ -40,6 +41,7 @@ fn check_counts(net: CheckedNet, state: &[u8], t: usize) -> Result<(), Fault>
 }
 
 // The transitions in turn, from the lowest.
+#[tactic(auto, using(crate::proofs::CheckedNets::limits, crate::proofs::Turns::turns))]
 fn check_all_counts(net: CheckedNet, state: &[u8]) -> Result<(), Fault>
     requires { StateHead (net_of net.bytes.now) state.now }
     ensures { result ≡ in_turn (check_counts (net_of net.entry.bytes.now) state.now) 0 (net_of net.entry.bytes.now).transitions }
@@ -51,6 +53,7 @@ fn check_all_counts(net: CheckedNet, state: &[u8]) -> Result<(), Fault>
 }
 
 // Checks that a state of the net stands at the front of the buffer.
+#[tactic(auto, using(crate::proofs::CheckedNets::limits), unfolding(crate::specs::States::check_state))]
 pub fn check_state(net: CheckedNet, state: &[u8]) -> Result<(), Fault>
     ensures { result ≡ check_state (net_of net.entry.bytes.now) state.now }
 {

@@ -10,6 +10,7 @@ pub fn wide(x: u8) -> usize
 }
 
 // The word of two bytes that starts at `at`.
+#[tactic(auto, unfolding(crate::specs::Word::word))]
 pub fn read16(s: &[u8], at: usize) -> usize
     requires { at + 1 < length s.now }
     ensures { (result ≡ word s.now at) × (result < 65536) }
@@ -18,6 +19,7 @@ pub fn read16(s: &[u8], at: usize) -> usize
 }
 
 // The word of four bytes that starts at `at`.
+#[tactic(auto, unfolding(crate::specs::Word::word32, crate::specs::Word::word))]
 pub fn read32(s: &[u8], at: usize) -> usize
     requires { at + 3 < length s.now }
     ensures { result ≡ word32 s.now at }
@@ -35,6 +37,7 @@ pub fn blank(s: &[u8], at: usize, n: usize) -> bool
 }
 
 // Writes `v` as the word of two bytes that starts at `at`.
+#[tactic(auto, using(crate::proofs::WordBytes::put_two))]
 pub fn write16(s: &mut [u8], at: usize, v: usize)
     requires { (at + 1 < length s.old) × (v < 65536) }
     ensures { s.new ≡ set_word s.old at v }
@@ -43,6 +46,7 @@ pub fn write16(s: &mut [u8], at: usize, v: usize)
 }
 
 // Writes `v` as the word of four bytes that starts at `at`.
+#[tactic(auto, using(crate::proofs::WordBytes::put_four))]
 pub fn write32(s: &mut [u8], at: usize, v: usize)
     requires { (at + 3 < length s.old) × (v < 4294967296) }
     ensures { s.new ≡ set_word32 s.old at v }
@@ -51,6 +55,7 @@ pub fn write32(s: &mut [u8], at: usize, v: usize)
 }
 
 // Writes 0 as the n words of two bytes from `at` on.
+#[tactic(auto, using(crate::proofs::WordBytes::put_zeros))]
 pub fn clear(s: &mut [u8], at: usize, n: usize)
     requires { at + 2 * n ≤ length s.old }
     ensures { s.new ≡ put_words at n (λ i. 0) s.old }
