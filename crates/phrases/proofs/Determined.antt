@@ -1,19 +1,22 @@
 -- Each public function's promise determines its answer and every byte of the buffer that is lent to it.
 -- Assumes nothing.
+use borrow.Author.Rules.{rules}
 use mathlib.Core.Path.{◌≡◌, refl, sym, ap, ◌∙◌}
 use mathlib.Core.List.{List, [], ◌∷◌}
 use Prim.Native.Nat.{ℕ}
 use Rattle.model.proofs.Determined.{Determined, LeavesOne}
 use Rattle.text.proofs.Determined.{spelt-ends, spelt-stands}
+use Rattle.phrases.specs.declared.arguments.Asked.{Asked}
+use Rattle.phrases.specs.Arguments.{nothing as nothing_asked}
 use Rattle.phrases.specs.declared.phrase.Phrase.{Phrase}
 use Rattle.phrases.specs.Wording.{Meaning, meaning, called, behind_name, Numbered, Meant, Piece, Worded}
 use Rattle.phrases.specs.Wording.Worded.{none, more}
-use Rattle.phrases.proofs.arguments.Asked.nothing.Reads as nothing
-use Rattle.phrases.proofs.arguments.Asked.nothing.Kinds as nothing-kinds
-use Rattle.phrases.proofs.arguments.Asked.is_complete.Reads as is-complete
-use Rattle.phrases.proofs.arguments.Asked.is_complete.Kinds as is-complete-kinds
-use Rattle.phrases.proofs.arguments.take.Reads as take
-use Rattle.phrases.proofs.arguments.take.Kinds as take-kinds
+use Rattle.phrases.proofs.arguments.AskedDefault.default.Reads as nothing
+use Rattle.phrases.proofs.arguments.AskedDefault.default.Kinds as nothing-kinds
+use Rattle.phrases.proofs.arguments.Asked.complete.Reads as complete
+use Rattle.phrases.proofs.arguments.Asked.complete.Kinds as complete-kinds
+use Rattle.phrases.proofs.arguments.Asked.take.Reads as take
+use Rattle.phrases.proofs.arguments.Asked.take.Kinds as take-kinds
 use Rattle.phrases.proofs.names.next_bad.Reads as next-bad
 use Rattle.phrases.proofs.names.next_bad.Kinds as next-bad-kinds
 use Rattle.phrases.proofs.names.name_of.Reads as name_of_call
@@ -33,17 +36,21 @@ use Rattle.phrases.proofs.wording.put.Kinds as put-kinds
 
 -- ARGUMENTS, NAMES AND PHRASES: equations
 
-pub nothing-determined : Determined 0 nothing-kinds.ps nothing-kinds.r nothing.Learnt
-nothing-determined κs args x y s s' p q = p ∙ sym q
+-- the derived `default` is what nothing asks for
+pub nothing-is : (κs : _) (args : _) (x : Asked) (s : _) → nothing.Learnt κs args x s → x ≡ nothing_asked
+nothing-is κs args x s p = search rules
 
-pub is-complete-determined : Determined 0 is-complete-kinds.ps is-complete-kinds.r is-complete.Learnt
-is-complete-determined κs args x y s s' p q = p ∙ sym q
+pub nothing-determined : Determined 0 nothing-kinds.ps nothing-kinds.r nothing.Learnt
+nothing-determined κs args x y s s' p q = nothing-is κs args x s p ∙ sym (nothing-is κs args y s' q)
+
+pub complete-determined : Determined 0 complete-kinds.ps complete-kinds.r complete.Learnt
+complete-determined κs args x y s s' p q = p ∙ sym q
 
 pub take-determined : Determined 1 take-kinds.ps take-kinds.r take.Learnt
 take-determined κs args x y s s' p q = p ∙ sym q
 
 pub next-bad-determined : Determined 1 next-bad-kinds.ps next-bad-kinds.r next-bad.Learnt
-next-bad-determined κs args x y s s' p q = p ∙ sym q
+next-bad-determined κs args x y s s' p q = p.0 ∙ sym q.0
 
 pub name-of-determined : Determined 1 name-of-kinds.ps name-of-kinds.r name_of_call.Learnt
 name-of-determined κs args x y s s' p q = p.0 ∙ sym q.0

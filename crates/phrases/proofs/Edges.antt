@@ -7,18 +7,14 @@ use native.Mathlib.Omega.{arith}
 use lib.ListN.{replicate}
 use lib.Seq.{paste}
 use Rattle.io.specs.Digits.{last_digits, IsDigitCount}
-use Rattle.model.specs.Tab.{all}
 use Rattle.text.specs.Lines.{Spelt}
-use Rattle.phrases.specs.Bytes.{starts_with, is_same}
-use Rattle.phrases.specs.Arguments.{is_complete, option_takes, file_takes, takes}
-use Rattle.phrases.specs.Names.{end_from, lines_from, is_digit, is_visible, are_all_visible, is_name, named, thing_of, thing_in, is_bad, is_due, next_bad_in, next_bad, does_name, name_in, name_by}
+use Rattle.phrases.specs.Names.{named, thing_of, thing_in, is_bad, is_due, next_bad_in, next_bad, name_in, name_by}
 use Rattle.phrases.specs.Phrase.{phrase}
-use Rattle.phrases.specs.Wording.{chosen, meaning, called, behind_name, Piece}
+use Rattle.phrases.specs.Wording.{meaning, called, behind_name, Piece}
 use Rattle.phrases.specs.Wording.Worded.{none, more}
 use Rattle.phrases.specs.Edges.{file_of_names, ArgumentEdges, NameEdges, WordEdges}
 
 pub argument-edges : ArgumentEdges
-unfolding all starts_with is_same is_complete option_takes file_takes takes
 argument-edges = record {
   any_order = refl;
   no_such_option = refl;
@@ -31,7 +27,7 @@ argument-edges = record {
 }
 
 pub name-edges : NameEdges
-unfolding all starts_with end_from lines_from is_digit is_visible are_all_visible is_name named thing_of thing_in is_bad is_due next_bad_in next_bad does_name name_in name_by
+unfolding named thing_of thing_in is_bad is_due next_bad_in next_bad name_in name_by
 name-edges = record { first_bad = refl; no_further = refl; no_lines = refl; salt = refl; add = refl; no_name = refl; longest = refl; too_long = refl; blank = refl; empty = refl }
 
 -- a number spelt with so many digits
@@ -46,7 +42,7 @@ abbrev named-first : List ℕ
 named-first = 55 ∷ 32 ∷ 97 ∷ 100 ∷ 100 ∷ []
 
 transition-piece : Piece (phrase 0 7 12 0 0) file_of_names (replicate 10 0) 0 84 (named-first ++ replicate 5 0) 5
-unfolding all starts_with end_from lines_from is_digit is_visible are_all_visible is_name named thing_of thing_in does_name name_in name_by chosen meaning called behind_name
+unfolding named thing_of thing_in name_in name_by meaning called behind_name
 transition-piece =
     record { meant = record { spelt = _; last = 1; number = spell (replicate 10 0) 0 7 1 (figure 7 (omega arith)); stands = refl; ends = refl } }
 
@@ -59,7 +55,7 @@ unfolding meaning
 blank-piece = record { meant = (refl, refl) }
 
 second-piece : Piece (phrase 0 7 12 0 0) file_of_names (named-first ++ (58 ∷ 32 ∷ replicate 3 0)) 7 66 (named-first ++ (58 ∷ 32 ∷ 49 ∷ 50 ∷ 0 ∷ [])) 9
-unfolding meaning chosen called behind_name
+unfolding meaning called behind_name
 second-piece = record {
   meant = record {
     spelt = _;
@@ -71,7 +67,7 @@ second-piece = record {
 }
 
 unnamed-piece : Piece (phrase 0 6 0 0 0) file_of_names (replicate 2 0) 0 80 (54 ∷ 0 ∷ []) 1
-unfolding all starts_with end_from lines_from is_digit is_visible are_all_visible is_name named thing_of thing_in does_name name_in name_by chosen meaning called behind_name
+unfolding named thing_of thing_in name_in name_by meaning called behind_name
 unnamed-piece =
     record { meant = record { spelt = _; last = 1; number = spell (replicate 2 0) 0 6 1 (figure 6 (omega arith)); stands = refl; ends = refl } }
 

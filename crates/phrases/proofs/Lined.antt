@@ -1,140 +1,132 @@
--- Lines: where one ends, the list of them from a place on, and the searches through that list, turn by turn.
+-- Lines: how long they are together, and the searches through them.
 -- Assumes nothing.
-use mathlib.Core.Path.{◌≡◌, refl, sym, ap, ◌∙◌}
-use mathlib.Core.Bool.{Bool, true, false}
-use mathlib.Core.List.{List, [], ◌∷◌}
-use Prim.Native.Nat.{ℕ, zero, suc, ◌+◌, ◌-◌, ◌<◌, ◌≤◌}
-use native.Mathlib.Numerals.{add-one}
-use native.Mathlib.Omega.{arith}
-use lib.Dec.{eqb}
-use lib.ListN.{length, drop, drop_of_length-le}
-use lib.Seq.{drop-cons}
-use borrow.Author.Tests.{eq-eqb, ne_eqb, lt-ltb, le-ltb}
-use Rattle.phrases.specs.declared.names.Named.{Named}
-use Rattle.phrases.specs.declared.names.Thing.{Thing}
-use Rattle.phrases.specs.Bytes.{byte}
-use Rattle.phrases.specs.Names.{part, bytes_of, end_from, end_of, behind, lines_from, thing_in, is_due, next_bad_in, next_bad, does_name, name_in, name_by}
+use Rattle.std.proofs.Common.{◌≡◌, refl, sym, ap, ◌∙◌, Bool, true, false, cond, List, [], ◌∷◌, ℕ, zero, suc, ◌+◌, ◌-◌, ◌<◌, ◌≤◌, ◌&&◌, eqb, leb, length, get_or, drop, sum_by, IfSome, Option, Some, None, arith}
+use Rattle.std.proofs.Math.ListN.{drop_of_length-le}
+use Rattle.std.proofs.lemmas.List.{drop_more}
+use Rattle.std.proofs.lemmas.List.Sums.{sum_by-cons}
+use Rattle.std.proofs.lemmas.Option.{IfSome_then}
+use Rattle.std.specs.List.{onto_first, find, enumerate_from}
+use Rattle.std.specs.Option.{option_map}
+use Rattle.std.specs.Borrow.{Bor}
+use borrow.Author.Tests.{le-leb, lt-leb, leb-true, eq-eqb, ne_eqb}
+use Rattle.phrases.specs.Names.{part, lines_of, Said, thing_in, is_bad, is_due, next_bad_in, next_bad, does_name, name_in}
 
--- THE END OF A LINE
+-- of these lines, and a byte behind each
+abbrev pub total : List (List ℕ) → ℕ
+total ls = sum_by (λ l. length l + 1) ls
 
-stop : (b : ℕ) (rest : List ℕ) (i : ℕ) → eqb b 10 ≡ true → end_from (b ∷ rest) i ≡ i
-unfolding end_from
-stop b rest i h = rw h refl
+total-onto_first : (x : ℕ) (ls : List (List ℕ)) → 0 < total ls → total (onto_first x ls) ≡ total ls + 1
+total-onto_first x [] h = absurd (omega arith)
+total-onto_first x (l ∷ ls) h = simp sum_by-cons (omega arith)
 
-go : (b : ℕ) (rest : List ℕ) (i : ℕ) → eqb b 10 ≡ false → end_from (b ∷ rest) i ≡ end_from rest (i + 1)
-unfolding end_from
-go b rest i h = rw h refl
+-- one byte more than the file
+pub total_lines_of : (names : List ℕ) → total (lines_of names) ≡ length names + 1
+total_lines_of [] = refl
+total_lines_of (b ∷ names) =
+    let rest : total (lines_of names) ≡ length names + 1 = total_lines_of names in
+    elim (eqb b 10) as (λ is. total (cond is ([] ∷ lines_of names) (onto_first b (lines_of names))) ≡ length (b ∷ names) + 1) [
+      | true ↦ simp sum_by-cons (omega arith)
+      | false ↦ omega (arith, total-onto_first b (lines_of names) (omega arith))
+    ]
 
-module _ (names : List ℕ) (i : ℕ) where
-  module _ (l : i < length names) where
-    split : drop i names ≡ byte names i ∷ drop (i + 1) names
-    split = rw (add-one i) (drop-cons names i 0 l)
+-- BAD LINES
 
-    pub ends-here : byte names i ≡ 10 → i ≡ end_from (drop i names) i
-    ends-here e = rw split (sym (stop (byte names i) (drop (i + 1) names) i (eq-eqb (byte names i) 10 e)))
+abbrev pub bad : ℕ × List ℕ → Bool
+bad (k, l) = is_bad l
 
-    pub goes_on : ¬ (byte names i ≡ 10) → end_from (drop i names) i ≡ end_from (drop (i + 1) names) (i + 1)
-    goes_on n = rw split (go (byte names i) (drop (i + 1) names) i (ne_eqb (byte names i) 10 n))
+-- the number of a line before which p.0 others stand
+abbrev pub number : Option (ℕ × List ℕ) → Option ℕ
+number found = option_map (λ p. p.0 + 1) found
 
-  pub ends-with-all : length names ≤ i → i ≡ end_from (drop i names) i
-  unfolding end_from
-  ends-with-all u = rw (drop_of_length-le names u) refl
+module _ (after : ℕ) where
+  all_due : (k : ℕ) (ls : List (List ℕ)) → after ≤ k → number (find bad (enumerate_from k ls)) ≡ next_bad_in after k ls
+  unfolding is_due next_bad_in
+  all_due k [] h = refl
+  all_due k (l ∷ ls) h = rw (le-leb after k h)
+      (elim (is_bad l) as (λ is. number (cond is (Some (k, l)) (find bad (enumerate_from (k + 1) ls))) ≡ cond is (Some (k + 1)) (next_bad_in after (k + 1) ls)) [
+        | true ↦ refl
+        | false ↦ all_due (k + 1) ls (omega arith)
+      ])
 
--- THE LINES FROM A PLACE ON
+  -- j lines are left out, which are not due
+  due_behind : (j k : ℕ) (ls : List (List ℕ)) → k + j ≡ after → number (find bad (drop j (enumerate_from k ls))) ≡ next_bad_in after k ls
+  unfolding is_due next_bad_in
+  due_behind zero k ls e = all_due k ls (omega arith)
+  due_behind (suc j) k [] e = refl
+  due_behind (suc j) k (l ∷ ls) e = rw (lt-leb after k (omega arith)) (due_behind j (k + 1) ls (omega arith))
 
-module _ (names : List ℕ) (from : ℕ) where
-  pub no_line : (n : ℕ) → length names ≤ from → lines_from names n from ≡ []
-  unfolding lines_from
-  no_line zero u = refl
-  no_line (suc n) u = rw (le-ltb from (length names) u) refl
-
-  a-line : (n : ℕ) → from < length names
-      → lines_from names (suc n) from ≡ part from (end_of names from) ∷ lines_from names n (behind names (end_of names from))
-  unfolding lines_from
-  a-line n l = rw (lt-ltb from (length names) l) refl
-
-  pub first-line : (n m end : ℕ) → n ≡ suc m → from < length names → end ≡ end_of names from
-      → lines_from names n from ≡ part from end ∷ lines_from names m (behind names end)
-  first-line n m end s l e = rw (s, e) (a-line m l)
-
--- THE NEXT BAD LINE
-
-module _ (names : List ℕ) (after : ℕ) where
-  -- the search from here is the search through all lines
-  abbrev pub BadFrom : ℕ → ℕ → Type 0
-  BadFrom line from = next_bad_in names after line (lines_from names (length names - line) from) ≡ next_bad names after
-
-  pub bad-begins : BadFrom 0 0
+  next_bad_found : (names : List ℕ) → number (find bad (drop after (enumerate_from 0 (lines_of names)))) ≡ next_bad names after
   unfolding next_bad
-  bad-begins = ap (λ (n : ℕ). next_bad_in names after 0 (lines_from names n 0)) (omega arith)
+  next_bad_found names = due_behind after 0 (lines_of names) (omega arith)
 
-  pub none-bad : (line from : ℕ) → length names ≤ from → BadFrom line from → 0 ≡ next_bad names after
-  unfolding next_bad_in
-  none-bad line from u inv =
-      ap (next_bad_in names after line) (sym (no_line names from (length names - line) u)) ∙ inv
+  -- what the code finds is that line
+  as_found : (found : Option (ℕ × Bor (List ℕ))) → option_map (λ p. p.0 + 1) found ≡ number (option_map (λ p. (p.0, p.1.now)) found)
+  as_found None = refl
+  as_found (Some p) = refl
 
-  is-bad : (line : ℕ) (l : Named) (ls : List Named) → is_due after line (bytes_of names l) ≡ true → next_bad_in names after line (l ∷ ls) ≡ line + 1
-  unfolding next_bad_in
-  is-bad line l ls e = rw e refl
+  pub is_next_bad : (names : List ℕ) (found : Option (ℕ × Bor (List ℕ))) (r : Option ℕ)
+      → option_map (λ p. (p.0, p.1.now)) found ≡ find bad (drop after (enumerate_from 0 (lines_of names))) → r ≡ option_map (λ p. p.0 + 1) found → r ≡ next_bad names after
+  is_next_bad names found r e f = f ∙ as_found found ∙ ap number e ∙ next_bad_found names
 
-  is_not : (line : ℕ) (l : Named) (ls : List Named) → is_due after line (bytes_of names l) ≡ false
-      → next_bad_in names after line (l ∷ ls) ≡ next_bad_in names after (line + 1) ls
-  unfolding next_bad_in
-  is_not line l ls e = rw e refl
+  abbrev IsWithin : ℕ → List (List ℕ) → ℕ → Type 0
+  IsWithin k ls line = (after < line) × (line + 1 ≤ k + total ls)
 
-  module _ (line from end : ℕ) (is : Bool) (l : from < length names) (u : line ≤ from) (e : end ≡ end_of names from)
-      (d : is ≡ is_due after line (bytes_of names (part from end))) (inv : BadFrom line from) where
-    abbrev others : List Named
-    others = lines_from names (length names - (line + 1)) (behind names end)
+  bad-has_bytes : (l : List ℕ) → is_bad l ≡ true → 0 < length l
+  unfolding is_bad
+  bad-has_bytes [] h = cc
+  bad-has_bytes (b ∷ l) h = omega arith
 
-    lines : lines_from names (length names - line) from ≡ part from end ∷ others
-    lines = first-line names from (length names - line) (length names - (line + 1)) end (omega arith) l e
+  further : (k : ℕ) (l : List ℕ) (ls : List (List ℕ)) → IfSome (next_bad_in after (k + 1) ls) (IsWithin (k + 1) ls) → IfSome (next_bad_in after (k + 1) ls) (IsWithin k (l ∷ ls))
+  further k l ls h = IfSome_then (next_bad_in after (k + 1) ls) {P = IsWithin (k + 1) ls} {Q = IsWithin k (l ∷ ls)} h (λ line p. simp sum_by-cons (omega arith, omega arith))
 
-    pub bad-here : is ≡ true → line + 1 ≡ next_bad names after
-    bad-here h = sym (is-bad line (part from end) others (sym d ∙ h)) ∙ ap (next_bad_in names after line) (sym lines) ∙ inv
+  within-turn : (k : ℕ) (l : List ℕ) (ls : List (List ℕ)) (is₁ is₂ : Bool) → leb after k ≡ is₁ → is_bad l ≡ is₂
+      → IfSome (next_bad_in after (k + 1) ls) (IsWithin (k + 1) ls) → IfSome (cond (is₁ && is₂) (Some (k + 1)) (next_bad_in after (k + 1) ls)) (IsWithin k (l ∷ ls))
+  within-turn k l ls true true e₁ e₂ h =
+      let p : after ≤ k = leb-true after k e₁ in
+      let q : 0 < length l = bad-has_bytes l e₂ in
+      simp sum_by-cons (omega arith, omega arith)
+  within-turn k l ls true false e₁ e₂ h = further k l ls h
+  within-turn k l ls false is₂ e₁ e₂ h = further k l ls h
 
-    pub bad-later : is ≡ false → BadFrom (line + 1) (behind names end)
-    bad-later h = sym (is_not line (part from end) others (sym d ∙ h)) ∙ ap (next_bad_in names after line) (sym lines) ∙ inv
+  within : (k : ℕ) (ls : List (List ℕ)) → IfSome (next_bad_in after k ls) (IsWithin k ls)
+  unfolding is_due next_bad_in
+  within k [] = tt
+  within k (l ∷ ls) = within-turn k l ls (leb after k) (is_bad l) refl refl (within (k + 1) ls)
+
+  pub next_bad_within : (names : List ℕ) → IfSome (next_bad names after) (λ line. (after < line) × (line ≤ length names))
+  unfolding next_bad
+  next_bad_within names =
+      IfSome_then (next_bad_in after 0 (lines_of names)) {P = IsWithin 0 (lines_of names)} {Q = λ line. (after < line) × (line ≤ length names)} (within 0 (lines_of names))
+      (λ line p. (p.0, omega (arith, p.1, total_lines_of names)))
 
 -- THE NAME OF A THING
 
-module _ (names word : List ℕ) (number : ℕ) where
-  -- the search through at most n lines from here is the search through all lines
-  abbrev pub NameFrom : ℕ → ℕ → Type 0
-  NameFrom n from = name_in names word number (lines_from names n from) ≡ name_by names word number
+-- a turn of the search through lines, at line k, which begins at `from`
+module _ (word : List ℕ) (number : ℕ) (lines : List (List ℕ)) (k from : ℕ) (line : List ℕ) (some : k < length lines) (here : line ≡ get_or lines k line) where
+  abbrev left : ℕ → List (List ℕ)
+  left i = drop i lines
 
-  pub name-begins : NameFrom (length names) 0
-  unfolding name_by
-  name-begins = refl
+  split : left k ≡ line ∷ left (k + 1)
+  split = drop_more lines k line some ∙ ap (λ (x : List ℕ). x ∷ left (k + 1)) (sym here)
 
-  pub no_name : (n from : ℕ) → length names ≤ from → NameFrom n from → part 0 0 ≡ name_by names word number
+  pub room-turn : (n : ℕ) → from + total (left k) ≡ n → from + length line + 1 + total (left (k + 1)) ≡ n
+  room-turn n e = omega (arith, ap total split, sum_by-cons (λ (l : List ℕ). length l + 1) line (left (k + 1)))
+
+  pub name_here : (s : Said) → Some s ≡ thing_in line word → s.number ≡ number
+      → Some (part (from + length line - length s.name) (from + length line)) ≡ name_in word number from (left k)
   unfolding name_in
-  no_name n from u inv = ap (name_in names word number) (sym (no_line names from n u)) ∙ inv
+  name_here s e f = rw (split, ← e, eq-eqb s.number number f) refl
 
-  is_name_lem : (l : Named) (ls : List Named) → does_name (thing_in (bytes_of names l) word) number ≡ true
-      → name_in names word number (l ∷ ls) ≡ part (l.to - (thing_in (bytes_of names l) word).length) l.to
+  pub not_here : does_name (thing_in line word) number ≡ false → name_in word number from (left k) ≡ name_in word number (from + length line + 1) (left (k + 1))
   unfolding name_in
-  is_name_lem l ls e = rw e refl
+  not_here e = rw (split, e) refl
 
-  is-other : (l : Named) (ls : List Named) → does_name (thing_in (bytes_of names l) word) number ≡ false
-      → name_in names word number (l ∷ ls) ≡ name_in names word number ls
-  unfolding name_in
-  is-other l ls e = rw e refl
+pub no_thing : (said : Option Said) (number : ℕ) → None ≡ said → does_name said number ≡ false
+no_thing said number e = rw (← e) refl
 
-  module _ (n from end : ℕ) (t : Thing) (is : Bool) (l : from < length names) (u : length names ≤ n + from) (e : end ≡ end_of names from)
-      (te : t ≡ thing_in (bytes_of names (part from end)) word) (d : is ≡ does_name t number) (inv : NameFrom n from) where
-    abbrev unread : List Named
-    unread = lines_from names (n - 1) (behind names end)
+pub other_number : (said : Option Said) (s : Said) (number : ℕ) → Some s ≡ said → (s.number ≡ number → ⊥) → does_name said number ≡ false
+other_number said s number e n = rw (← e) (ne_eqb s.number number n)
 
-    read : lines_from names n from ≡ part from end ∷ unread
-    read = first-line names from n (n - 1) end (omega arith) l e
-
-    told : does_name (thing_in (bytes_of names (part from end)) word) number ≡ is
-    told = ap (λ (x : Thing). does_name x number) (sym te) ∙ sym d
-
-    pub name-here : is ≡ true → part (end - t.length) end ≡ name_by names word number
-    name-here h =
-        ap (λ (x : Thing). part (end - x.length) end) te ∙ sym (is_name_lem (part from end) unread (told ∙ h)) ∙ ap (name_in names word number) (sym read) ∙ inv
-
-    pub name-later : is ≡ false → NameFrom (n - 1) (behind names end)
-    name-later h = sym (is-other (part from end) unread (told ∙ h)) ∙ ap (name_in names word number) (sym read) ∙ inv
+pub none_left : (word : List ℕ) (number : ℕ) (lines : List (List ℕ)) (k from : ℕ) → length lines ≤ k → None ≡ name_in word number from (drop k lines)
+unfolding name_in
+none_left word number lines k from h = rw (drop_of_length-le lines h) refl

@@ -1,94 +1,50 @@
 -- Words put piece by piece: what each way through a piece says, and the turns of the loop.
 -- Assumes nothing.
-use mathlib.Core.Path.{◌≡◌, refl, sym, ap, ◌∙◌}
-use mathlib.Core.List.{List, [], ◌∷◌}
-use Prim.Native.Nat.{ℕ, suc, ◌+◌, ◌-◌, ◌<◌, ◌≤◌}
-use native.Mathlib.Numerals.{add-one}
-use native.Mathlib.Omega.{arith}
-use lib.ListN.{length, get_or, set, drop, length-take, length-drop}
-use lib.Seq.{paste, drop-cons, drop-length}
-use borrow.Author.Tests.{eq-eqb, ne_eqb, le-leb, lt-leb}
+use Rattle.std.proofs.Common.{◌≡◌, ◌≢◌, false, eqb, refl, sym, ap, ◌∙◌, List, [], ◌∷◌, ℕ, suc, ◌+◌, ◌-◌, ◌<◌, ◌≤◌, ◌⊎◌, inl, inr, length, get_or, set, drop, add-one, drop-cons, arith}
+use Rattle.std.proofs.Math.Seq.{paste, drop-length}
+use borrow.Author.Tests.{ne_eqb, le-leb, lt-leb}
 use Rattle.text.specs.Lines.{space, Spelt}
 use Rattle.phrases.specs.declared.phrase.Phrase.{Phrase}
-use Rattle.phrases.specs.declared.names.Named.{Named}
 use Rattle.phrases.specs.declared.names.Kind.TheVariants as kind
 use Rattle.phrases.specs.Names.{bytes_of, name_of}
-use Rattle.phrases.specs.Wording.{Meaning, chosen, thing, meaning, called, behind_name, Numbered, Meant, Piece, Worded}
+use Rattle.phrases.specs.Wording.{chosen, meaning, called, behind_name, Numbered, Piece, Worded}
 use Rattle.phrases.specs.Wording.Worded.{none, more}
 
 -- A NUMBER AND A NAME
 
-pub bytes-length : (names : List ℕ) (part : Named) → part.to ≤ length names → length (bytes_of names part) ≡ part.to - part.from
-bytes-length names part l = simp (length-take, length-drop) (omega arith)
-
 module _ (before : List ℕ) (at n : ℕ) (spelt : List ℕ) (last : ℕ) (s : Spelt before at n spelt last) where
-  bare : (name : List ℕ) → length name ≡ 0 → Numbered before at n name spelt last
-  unfolding called behind_name
-  bare name e = record {
-    spelt = spelt;
-    last = last;
-    number = s;
-    stands = rw (eq-eqb (length name) 0 e) refl;
-    ends = rw (eq-eqb (length name) 0 e) refl;
-  }
-
   pub number-alone : Numbered before at n [] spelt last
-  number-alone = bare [] refl
+  unfolding called behind_name
+  number-alone = record { spelt = spelt; last = last; number = s; stands = refl; ends = refl }
 
-  with-name : (name : List ℕ) → ¬ (length name ≡ 0)
+  pub with-name : (name : List ℕ) → 0 < length name
       → Numbered before at n name (paste (set spelt last space) (last + 1) name (length name)) (last + 1 + length name)
   unfolding called behind_name
-  with-name name l = record {
-    spelt = spelt;
-    last = last;
-    number = s;
-    stands = rw (ne_eqb (length name) 0 l) refl;
-    ends = rw (ne_eqb (length name) 0 l) refl;
-  }
-
-  module _ (names : List ℕ) (part said : Named) (e : part ≡ said) (l : part.to ≤ length names) where
-    pub no_name : part.from ≡ part.to → Numbered before at n (bytes_of names said) spelt last
-    no_name h =
-        let z : length (bytes_of names part) ≡ 0 = omega (arith, bytes-length names part l) in
-        rw (← e) (bare (bytes_of names part) z)
-
-    module _ (h : ¬ (part.from ≡ part.to)) (o : part.from ≤ part.to) (b₁ : List ℕ) (at₁ : ℕ) (p : at₁ ≡ last + 1) (q : b₁ ≡ set spelt last space) where
-      pub a-name : (after : List ℕ) (end : ℕ) → end ≡ at₁ + length (bytes_of names part)
-          → after ≡ paste b₁ at₁ (bytes_of names part) (length (bytes_of names part)) → Numbered before at n (bytes_of names said) after end
-      a-name after end f g =
-          let z : ¬ (length (bytes_of names part) ≡ 0) = λ k. h (omega (arith, k, bytes-length names part l)) in
-          rw (← e, f, g, p, q) (with-name (bytes_of names part) z)
+  with-name name some =
+      let e : eqb (length name) 0 ≡ false = ne_eqb (length name) 0 (omega arith) in
+      record { spelt = spelt; last = last; number = s; stands = rw e refl; ends = rw e refl }
 
 -- ONE BYTE OF THE WORDS
 
 module _ (p : Phrase) (names before : List ℕ) (at b : ℕ) (after : List ℕ) (end : ℕ) where
-  piece : (m : Meaning) → meaning p names b ≡ m → Meant before at b m after end → Piece p names before at b after end
-  piece m e h = record { meant = rw e h }
-
-  pub place-piece : b ≡ 80 → Numbered before at p.first (bytes_of names (name_of names kind.Place p.first)) after end → Piece p names before at b after end
+  pub place-piece : b ≡ 80 → Numbered before at (get_or p.numbers 0 0) (bytes_of names (name_of names kind.Place (get_or p.numbers 0 0))) after end → Piece p names before at b after end
   unfolding meaning
-  place-piece e h = piece (thing p names kind.Place) (rw (eq-eqb b 80 e) refl) h
+  place-piece e h = record { meant = rw e h }
 
-  module _ (n : ¬ (b ≡ 80)) where
-    pub transition-piece : b ≡ 84 → Numbered before at p.first (bytes_of names (name_of names kind.Transition p.first)) after end → Piece p names before at b after end
-    unfolding meaning
-    transition-piece e h = piece (thing p names kind.Transition) (rw (ne_eqb b 80 n, eq-eqb b 84 e) refl) h
+  pub transition-piece : b ≡ 84 → Numbered before at (get_or p.numbers 0 0) (bytes_of names (name_of names kind.Transition (get_or p.numbers 0 0))) after end → Piece p names before at b after end
+  unfolding meaning
+  transition-piece e h = record { meant = rw e h }
 
-    module _ (m : ¬ (b ≡ 84)) where
-      pub below-piece : b < 65 → after ≡ set before at b → end ≡ at + 1 → Piece p names before at b after end
-      unfolding meaning
-      below-piece l f g = piece Meaning.itself (rw (ne_eqb b 80 n, ne_eqb b 84 m, lt-leb 65 b l) refl) (f, g)
+  pub number-piece : 65 ≤ b → b ≤ 68 → Spelt before at (get_or p.numbers (b - 65) 0) after end → Piece p names before at b after end
+  unfolding meaning
+  number-piece l u s = record {
+    meant = rw (ne_eqb b 80 (omega arith), ne_eqb b 84 (omega arith), le-leb 65 b l, le-leb b 68 u) (number-alone before at (chosen b p) after end s);
+  }
 
-      module _ (l : 65 ≤ b) where
-        pub above-piece : 68 < b → after ≡ set before at b → end ≡ at + 1 → Piece p names before at b after end
-        unfolding meaning
-        above-piece u f g = piece Meaning.itself (rw (ne_eqb b 80 n, ne_eqb b 84 m, le-leb 65 b l, lt-leb b 68 u) refl) (f, g)
-
-        pub number-piece : b ≤ 68 → (k : ℕ) → k ≡ chosen b p → Spelt before at k after end → Piece p names before at b after end
-        unfolding meaning
-        number-piece u k e s =
-            piece (Meaning.number (chosen b p) []) (rw (ne_eqb b 80 n, ne_eqb b 84 m, le-leb 65 b l, le-leb b 68 u) refl)
-            (number-alone before at (chosen b p) after end (rw e at s))
+  pub plain-piece : b ≢ 80 → b ≢ 84 → (b < 65) ⊎ (68 < b) → after ≡ set before at b → end ≡ at + 1 → Piece p names before at b after end
+  unfolding meaning
+  plain-piece n m (inl l) f g = record { meant = rw (ne_eqb b 80 n, ne_eqb b 84 m, lt-leb 65 b l) (f, g) }
+  plain-piece n m (inr u) f g = record { meant = rw (ne_eqb b 80 n, ne_eqb b 84 m, le-leb 65 b (omega arith), lt-leb b 68 u) (f, g) }
 
 -- THE LOOP
 

@@ -1,8 +1,15 @@
 -- A phrase: the number of its words, and the numbers that stand in them.
 -- Assumes nothing.
-use Rattle.std.specs.Prelude.{ℕ}
+use Rattle.std.specs.Prelude.{ℕ, ◌-◌, List, [], ◌∷◌, ◌++◌, length, replicate}
 use Rattle.phrases.specs.declared.phrase.Phrase.{Phrase}
 
+-- no words have more numbers in them
+abbrev pub numbers_most : ℕ
+numbers_most = 4
+
+-- these numbers, and 0 for each that is not given
+abbrev pub phrase_of : ℕ → List ℕ → Phrase
+phrase_of word numbers = record { word = word; numbers = numbers ++ replicate (numbers_most - length numbers) 0 }
+
 abbrev pub phrase : ℕ → ℕ → ℕ → ℕ → ℕ → Phrase
-phrase word first second third fourth =
-    record { word = word; first = first; second = second; third = third; fourth = fourth }
+phrase word first second third fourth = phrase_of word (first ∷ second ∷ third ∷ fourth ∷ [])

@@ -1,6 +1,6 @@
 -- What stands in a buffer when a phrase was put there by its words.
 -- Assumes nothing.
-use Rattle.std.specs.Prelude.{◌≡◌, ◌&&◌, cond, List, [], ◌∷◌, ℕ, ◌+◌, eqb, leb, length, set}
+use Rattle.std.specs.Prelude.{◌≡◌, ◌&&◌, cond, List, [], ◌∷◌, ℕ, ◌+◌, ◌-◌, eqb, leb, length, set, slice_index}
 use Rattle.std.proofs.Math.Seq.{paste}
 use Rattle.text.specs.Lines.{digits_most, space, Spelt}
 use Rattle.phrases.specs.declared.phrase.Phrase.{Phrase}
@@ -18,12 +18,12 @@ pub data Meaning : Type 0 where
   number : ℕ → List ℕ → Meaning
 
 -- the number that A, B, C or D stands for
-unfoldable pub chosen : ℕ → Phrase → ℕ
-chosen b p = cond (eqb b 65) p.first (cond (eqb b 66) p.second (cond (eqb b 67) p.third p.fourth))
+abbrev pub chosen : ℕ → Phrase → ℕ
+chosen b p = slice_index p.numbers (b - 65)
 
 -- the phrase's first number, with the name of that place or transition
 abbrev pub thing : Phrase → List ℕ → Kind → Meaning
-thing p names k = Meaning.number p.first (bytes_of names (name_of names k p.first))
+thing p names k = Meaning.number (slice_index p.numbers 0) (bytes_of names (name_of names k (slice_index p.numbers 0)))
 
 -- P, T, A to D, and any other byte
 unfoldable pub meaning : Phrase → List ℕ → ℕ → Meaning

@@ -3,7 +3,6 @@
 #![tactic(auto)]
 
 pub mod arguments;
-mod bytes;
 pub mod names;
 pub mod phrase;
 pub mod wording;

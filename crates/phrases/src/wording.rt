@@ -1,9 +1,8 @@
 // A phrase put into a lent buffer by its words. In the words some capital letters stand for the phrase's numbers; each other byte stands for
 // itself.
 ghost use Rattle.std.specs.Prelude.{◌≡◌, ◌+◌, ◌*◌, ◌≤◌, length};
-ghost use Rattle.text.specs.Lines.{digits_most, Spelt};
 ghost use Rattle.phrases.specs.Names.{name_of, bytes_of};
-ghost use Rattle.phrases.specs.Wording.{piece_most, chosen, Numbered, Piece, Worded};
+ghost use Rattle.phrases.specs.Wording.{piece_most, Numbered, Piece, Worded};
 
 use crate::names;
 use crate::names::Kind;
@@ -20,10 +19,8 @@ pub fn put(out: &mut [u8], at: usize, words: &[u8], phrase: Phrase, names: &[u8]
     ensures worded { Worded phrase names.now out.old at words.now out.new result }
 {
     let mut end = at;
-    let mut i = 0;
-    while i < words.len() {
-        end = put_piece(out, end, words[i], phrase, names);
-        i += 1;
+    for byte in words {
+        end = put_piece(out, end, *byte, phrase, names);
     }
     end
 }
@@ -34,43 +31,12 @@ fn put_piece(out: &mut [u8], at: usize, byte: u8, phrase: Phrase, names: &[u8]) 
     ensures upper_bound { result ≤ at + piece_most }
     ensures piece { Piece phrase names.now out.old at byte out.new result }
 {
-    if byte == b'P' {
-        return put_named(out, at, phrase.first, Kind::Place, names);
+    match byte {
+        b'P' => put_named(out, at, phrase.numbers[0], Kind::Place, names),
+        b'T' => put_named(out, at, phrase.numbers[0], Kind::Transition, names),
+        b'A'..=b'D' => { line::put_decimal(out, at, phrase.numbers[(byte - b'A') as usize] as u64) }
+        _ => line::put_byte(out, at, byte),
     }
-    if byte == b'T' {
-        return put_named(out, at, phrase.first, Kind::Transition, names);
-    }
-    if byte < b'A' {
-        return line::put_byte(out, at, byte);
-    }
-    if b'D' < byte {
-        return line::put_byte(out, at, byte);
-    }
-    put_number(out, at, chosen(byte, phrase))
-}
-
-// The number that A, B, C or D stands for.
-fn chosen(byte: u8, phrase: Phrase) -> usize
-    ensures { result ≡ chosen byte phrase }
-{
-    if byte == b'A' {
-        return phrase.first;
-    }
-    if byte == b'B' {
-        return phrase.second;
-    }
-    if byte == b'C' {
-        return phrase.third;
-    }
-    phrase.fourth
-}
-
-fn put_number(out: &mut [u8], at: usize, number: usize) -> usize
-    requires { at + digits_most ≤ length out.old }
-    ensures upper_bound { result ≤ at + digits_most }
-    ensures spelt { Spelt out.old at number out.new result }
-{
-    line::put_decimal(out, at, number as u64)
 }
 
 // A number, and a blank and the name behind it, where there is one.
@@ -79,13 +45,10 @@ fn put_named(out: &mut [u8], at: usize, number: usize, kind: Kind, names: &[u8])
     ensures upper_bound { result ≤ at + piece_most }
     ensures numbered { Numbered out.old at number (bytes_of names.now (name_of names.now kind number)) out.new result }
 {
-    let end = put_number(out, at, number);
-    let name = names::name_of(names, kind, number);
-    let from = name.from;
-    let to = name.to;
-    if from == to {
+    let end = line::put_decimal(out, at, number as u64);
+    let Some(name) = names::name_of(names, kind, number) else {
         return end;
-    }
+    };
     let behind = line::put_byte(out, end, b' ');
-    line::put_bytes(out, behind, &names[from..to])
+    line::put_bytes(out, behind, &names[name])
 }

@@ -1,31 +1,26 @@
--- `names::next_bad` meets its contract. The loop keeps that the search from here is the search through all lines.
-use native.Mathlib.Omega.{arith}
-use Rattle.phrases.proofs.Lined.{bad-begins, none-bad, bad-here, bad-later}
+-- The lines are those that `split` gives; the first bad one is looked for behind the first `after`.
+use Rattle.std.proofs.Common.{◌≡◌, ℕ, ◌<◌, ◌≤◌, eqb, length, IfSome, Option, rules, tests, sym, subst}
+use Rattle.std.proofs.lemmas.Iterator.Adapters.{YieldsList-from_skip}
+use Rattle.std.proofs.lemmas.Iterator.Consumers.{YieldsList-at, YieldsList-from_enumerate}
+use Rattle.std.proofs.lemmas.Iterator.Search.{find_from_yields_List}
+use Rattle.std.proofs.lemmas.Iterator.Splits.{YieldsList-from_slice_split}
+use Rattle.phrases.specs.Names.{next_bad}
+use Rattle.phrases.proofs.Lined.{bad, is_next_bad, next_bad_within}
 use Rattle.phrases.proofs.names.next_bad.Goals as goal
-
-pub loop-from-init : goal.loop-from-init
-loop-from-init c =
-    let a = c.args in
-    (omega arith, omega arith, bad-begins a.names.now a.after)
-
-pub returns-then-is_due : goal.returns-then-is_due
-returns-then-is_due c =
-    let a = c.args in
-    let end = c.line_end-end in
-    let due = c.is_due in
-    bad-here a.names.now a.after c.loop-from.line c.loop-from.from end.result due.result c.loop-from-test.true c.loop-from.invariant.0 end.ensures.value due.ensures c.loop-from.invariant.2 c.if-is_due.true
-
-pub loop-from-preserved : goal.loop-from-preserved
-loop-from-preserved c =
-    let a = c.args in
-    let end = c.line_end-end in
-    let due = c.is_due in (
-      omega (arith, end.ensures.lower_bound, c.behind_line-from.ensures),
-      omega (arith, end.ensures.lower_bound, c.behind_line-from.ensures),
-      rw c.behind_line-from.ensures (bad-later a.names.now a.after c.loop-from.line c.loop-from.from end.result due.result c.loop-from-test.true c.loop-from.invariant.0 end.ensures.value due.ensures c.loop-from.invariant.2 c.if-is_due.false),
-    )
 
 pub returns : goal.returns
 returns c =
-    let a = c.args in
-    none-bad a.names.now a.after c.loop-from.line c.loop-from.from c.loop-from-test.false c.loop-from.invariant.2
+    let names = c.args.names.now in
+    let after = c.args.after in
+    let value : c.map.result ≡ next_bad names after =
+    is_next_bad after names c.find.result c.map.result
+    (find_from_yields_List bad _ _ c.find.result c.find.ensures.ran
+    (YieldsList-from_skip after (YieldsList-at c.skip.ensures.source
+    (YieldsList-from_enumerate (YieldsList-at c.enumerate.ensures.source
+    (YieldsList-from_slice_split _ (λ b. eqb b 10) names c.split.ensures.rest c.split.ensures.done c.split.ensures.closure (λ x b q k. search (rules, tests))))
+    c.enumerate.ensures.count)) c.skip.ensures.count) (λ x b q k. search (rules, tests)))
+    (search rules) in
+    record {
+      value = value;
+      bounds = subst (λ (r : Option ℕ). IfSome r (λ line. (after < line) × (line ≤ length names))) (sym value) (next_bad_within after names);
+    }

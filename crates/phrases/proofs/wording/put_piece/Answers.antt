@@ -1,30 +1,20 @@
--- `wording::put_piece` meets its contract: what each byte stands for.
-use native.Mathlib.Omega.{arith}
-use Rattle.phrases.proofs.Phrased.{place-piece, transition-piece, below-piece, above-piece, number-piece}
+-- What each byte stands for.
+use Rattle.std.proofs.Common.{◌<◌, ◌⊎◌, inl, inr, arith, rules}
+use Rattle.phrases.proofs.Phrased.{place-piece, transition-piece, number-piece, plain-piece}
 use Rattle.phrases.proofs.wording.put_piece.Goals as goal
+use Rattle.phrases.proofs.wording.put_piece.Goals.{in_default-via-then-byte-lt65, in_default-via-else-byte-lt65+else-byte-lt69}
 
-pub returns-then-byte-eq80 : goal.returns-then-byte-eq80
-returns-then-byte-eq80 c =
-    let a = c.args in
-    let put = c.put_named in record { upper_bound = put.ensures.upper_bound; piece = place-piece a.phrase a.names.now a.out.now a.at a.byte put.new.out put.result c.if-byte-eq80.true put.ensures.numbered }
+pub returns-in-80-clause-piece : goal.returns-in-80-clause-piece
+returns-in-80-clause-piece c = place-piece _ _ _ _ _ _ _ c.in-80.is c.put_named.ensures.numbered
 
-pub returns-then-byte-eq84 : goal.returns-then-byte-eq84
-returns-then-byte-eq84 c =
-    let a = c.args in
-    let put = c.put_named-then-byte-eq84 in record { upper_bound = put.ensures.upper_bound; piece = transition-piece a.phrase a.names.now a.out.now a.at a.byte put.new.out put.result c.if-byte-eq80.false c.if-byte-eq84.true put.ensures.numbered }
+pub returns-in-84-clause-piece : goal.returns-in-84-clause-piece
+returns-in-84-clause-piece c = transition-piece _ _ _ _ _ _ _ c.in-84.is c.put_named-in-84.ensures.numbered
 
-pub returns-then-byte-lt65 : goal.returns-then-byte-lt65
-returns-then-byte-lt65 c =
-    let a = c.args in
-    let put = c.put_byte in record { upper_bound = omega (arith, put.ensures.value); piece = below-piece a.phrase a.names.now a.out.now a.at a.byte put.new.out put.result c.if-byte-eq80.false c.if-byte-eq84.false c.if-byte-lt65.true put.ensures.out_after put.ensures.value }
+pub returns-in-65-to-68-clause-piece : goal.returns-in-65-to-68-clause-piece
+returns-in-65-to-68-clause-piece c = number-piece _ _ _ _ _ _ _ (omega arith) (omega arith) c.put_decimal.ensures.spelt
 
-pub returns-then-byte-gt68 : goal.returns-then-byte-gt68
-returns-then-byte-gt68 c =
-    let a = c.args in
-    let put = c.put_byte-then-byte-gt68 in record { upper_bound = omega (arith, put.ensures.value); piece = above-piece a.phrase a.names.now a.out.now a.at a.byte put.new.out put.result c.if-byte-eq80.false c.if-byte-eq84.false c.if-byte-lt65.false c.if-byte-gt68.true put.ensures.out_after put.ensures.value }
-
-pub returns : goal.returns
-returns c =
-    let a = c.args in
-    let put = c.put_number in
-    let number = c.chosen in record { upper_bound = omega (arith, put.ensures.upper_bound); piece = number-piece a.phrase a.names.now a.out.now a.at a.byte put.new.out put.result c.if-byte-eq80.false c.if-byte-eq84.false c.if-byte-lt65.false c.if-byte-gt68.false number.result number.ensures put.ensures.spelt }
+pub returns-in_default-clause-piece : goal.returns-in_default-clause-piece
+returns-in_default-clause-piece c =
+    let elsewhere : (c.args.byte < 65) ⊎ (68 < c.args.byte) =
+    elim c.in_default.branch [ in_default-via-then-byte-lt65 w ↦ inl (omega arith) | in_default-via-else-byte-lt65+else-byte-lt69 w ↦ inr (omega arith) ] in
+    plain-piece _ _ _ _ _ _ _ (search rules) (search rules) elsewhere c.put_byte.ensures.out_after c.put_byte.ensures.value
