@@ -3,5 +3,8 @@
 use Rattle.std.specs.Prelude.{ℕ, ◌*◌}
 use Rattle.phrases.specs.Wording.{piece_most}
 
+abbrev pub words_most : ℕ
+words_most = 256
+
 abbrev pub phrase_most : ℕ
-phrase_most = 256 * piece_most
+phrase_most = words_most * piece_most

@@ -3,16 +3,15 @@
 // phrase becomes text in the crate phrases. Here are the words, and what reads and writes.
 #![tactic(auto)]
 
-mod meanings;
 mod table;
 
-ghost use Rattle.std.specs.Prelude.{◌+◌, ◌≤◌, ◌≡◌, length, IfOk};
+ghost use Rattle.std.specs.Prelude.{◌+◌, ◌≤◌, ◌≡◌, length, IfOk, IfSome};
 ghost use Rattle.why.specs.Said.{given, Reached};
 ghost use Rattle.menuwhy.specs.Room.{phrase_most};
 
-use phrases::arguments::Asked;
+use phrases::arguments::{Asked, Misuse, Request};
+use phrases::names;
 use phrases::phrase::Phrase;
-use phrases::{arguments, names};
 use std::env::Env;
 use std::fs::File;
 use std::io::Write;
@@ -38,25 +37,19 @@ fn usage<W: Write>(to: &mut W) -> io::Result<()> {
 }
 
 // Takes the words behind the program's own name.
-fn take_arguments<E: Env>(env: &E) -> Asked {
-    let count = streams::argument_count(env);
-    let mut asked = Asked::nothing();
-    let mut i = 1;
-    while i < count {
+fn take_arguments<E: Env>(env: &E) -> Result<Request, Misuse> {
+    let mut asked = Asked::default();
+    for i in 1..streams::argument_count(env) {
         let mut word = [0u8; WORD_MOST];
         let n = streams::argument(env, i, &mut word);
-        asked = arguments::take(asked, i, &word[..n]);
-        i += 1;
+        asked = asked.take(i, &word[..n])?;
     }
-    asked
+    asked.complete()
 }
 
 // The text in front of this one, or all of it.
 fn in_front<'a>(text: &'a str, of: &str) -> &'a str {
-    match text.split_once(of) {
-        Some((words, _)) => words,
-        None => text,
-    }
+    text.split_once(of).map_or(text, |(words, _)| words)
 }
 
 // Says on standard error why a file was not opened.
@@ -76,29 +69,29 @@ fn tell_unopened(rt: &HostRuntime, name: &str, error: &io::Error) -> io::Result<
     }
 }
 
-// Fills the buffer from the file of this name, and answers how many bytes it has; or says on standard error why there are none, and answers the
-// buffer's length, which no file that is taken has.
-fn read_named(rt: &HostRuntime, name: &str, buf: &mut [u8]) -> io::Result<usize>
-    ensures upper_bound { IfOk result (λ n. n ≤ length buf.new) }
+// Fills the buffer from the file of this name, and answers how many bytes it has; or says on standard error why there are none.
+fn read_named(rt: &HostRuntime, name: &str, buf: &mut [u8]) -> io::Result<Option<usize>>
+    ensures in_bounds { IfOk result (λ read. IfSome read (λ n. n ≤ length buf.new)) }
     ensures buf_len_unchanged { length buf.new ≡ length buf.old }
 {
     let mut file = match File::open(rt, name) {
         Ok(file) => file,
         Err(error) => {
             tell_unopened(rt, name, &error)?;
-            return Ok(buf.len());
+            return Ok(None);
         }
     };
     let got = streams::read_full(&mut file, buf)?;
     if got == buf.len() {
         eprintln!(rt; "{name}: longer than 65535 bytes")?;
+        return Ok(None);
     }
-    Ok(got)
+    Ok(Some(got))
 }
 
 // The same, of the file that argument i names. A name that is no text is none that a file can be opened by here.
-fn read_file(rt: &HostRuntime, i: usize, buf: &mut [u8]) -> io::Result<usize>
-    ensures upper_bound { IfOk result (λ n. n ≤ length buf.new) }
+fn read_file(rt: &HostRuntime, i: usize, buf: &mut [u8]) -> io::Result<Option<usize>>
+    ensures in_bounds { IfOk result (λ read. IfSome read (λ n. n ≤ length buf.new)) }
     ensures buf_len_unchanged { length buf.new ≡ length buf.old }
 {
     let mut word = [0u8; WORD_MOST];
@@ -109,7 +102,7 @@ fn read_file(rt: &HostRuntime, i: usize, buf: &mut [u8]) -> io::Result<usize>
             let mut stderr = rt.stderr();
             stderr.write_all(&word[..n])?;
             stderr.write_all(b": not a text\n")?;
-            Ok(buf.len())
+            Ok(None)
         }
     }
 }
@@ -128,22 +121,19 @@ fn make_room<W: Write>(to: &mut W, out: &[u8], end: usize) -> io::Result<usize>
 {
     if out.len() - end < table::PHRASE_MOST {
         flush(to, out, end)?;
-        return Ok(0);
+        Ok(0)
+    } else {
+        Ok(end)
     }
-    Ok(end)
 }
 
-// Tells the lines of the file of names that cannot be read. (No line's number is above the length of the file, for a bad line has bytes.)
+// Tells the lines of the file of names that cannot be read.
 fn tell_bad_names<W: Write>(to: &mut W, names: &[u8], out: &mut [u8]) -> io::Result<()>
     requires { phrase_most ≤ length out.old }
     ensures { length out.new ≡ length out.old }
 {
     let mut line = 0;
-    while line <= names.len() {
-        let bad = names::next_bad(names, line);
-        if bad <= line {
-            return Ok(());
-        }
+    while let Some(bad) = names::next_bad(names, line) {
         let end = table::put(out, 0, Phrase::one(BAD_NAME, bad), names);
         flush(to, out, end)?;
         line = bad;
@@ -179,15 +169,15 @@ fn tell_all<W: Write>(
     flush(to, out, end)
 }
 
-// Reads the file that argument i names; there is none, and no bytes, where i is 0.
-fn read_if_given(rt: &HostRuntime, i: usize, buf: &mut [u8]) -> io::Result<usize>
-    ensures upper_bound { IfOk result (λ n. n ≤ length buf.new) }
+// The same, of an argument that may not be given: then there is no file, and no bytes.
+fn read_if_given(rt: &HostRuntime, i: Option<usize>, buf: &mut [u8]) -> io::Result<Option<usize>>
+    ensures in_bounds { IfOk result (λ read. IfSome read (λ n. n ≤ length buf.new)) }
     ensures buf_len_unchanged { length buf.new ≡ length buf.old }
 {
-    if i == 0 {
-        return Ok(0);
+    match i {
+        Some(i) => read_file(rt, i, buf),
+        None => Ok(Some(0)),
     }
-    read_file(rt, i, buf)
 }
 
 // Tells what there is to tell of the files.
@@ -197,7 +187,7 @@ fn tell<W: Write>(
     log: &[u8],
     last: &mut [u8],
     names: &[u8],
-    asked: Asked,
+    request: Request,
     out: &mut [u8],
 ) -> io::Result<()>
     requires { (length log.now ≤ 65536) × (phrase_most ≤ length out.old) }
@@ -205,11 +195,11 @@ fn tell<W: Write>(
     let mut state = [0u8; BUFFER];
     let mut portion = [0u8; BUFFER];
     let wish = Wish {
-        all: asked.all,
-        states: asked.states,
+        all: request.all,
+        states: request.states,
     };
     tell_bad_names(to, names, out)?;
-    let begun = telling::begin(net, log, &mut state, last, 0 < asked.last, wish);
+    let begun = telling::begin(net, log, &mut state, last, request.last.is_some(), wish);
     tell_all(
         to,
         net,
@@ -224,27 +214,23 @@ fn tell<W: Write>(
 }
 
 // Reads the files, and tells.
-fn serve(rt: &HostRuntime, asked: Asked) -> io::Result<()> {
+fn serve(rt: &HostRuntime, request: Request) -> io::Result<()> {
     let mut net = [0u8; BUFFER];
-    let n = read_file(rt, asked.net, &mut net)?;
-    if n == BUFFER {
+    let Some(n) = read_file(rt, request.net, &mut net)? else {
         return Ok(());
-    }
+    };
     let mut log = [0u8; BUFFER];
-    let l = read_file(rt, asked.log, &mut log)?;
-    if l == BUFFER {
+    let Some(l) = read_file(rt, request.log, &mut log)? else {
         return Ok(());
-    }
+    };
     let mut last = [0u8; BUFFER];
-    let s = read_if_given(rt, asked.last, &mut last)?;
-    if s == BUFFER {
+    let Some(s) = read_if_given(rt, request.last, &mut last)? else {
         return Ok(());
-    }
+    };
     let mut names = [0u8; BUFFER];
-    let m = read_if_given(rt, asked.names, &mut names)?;
-    if m == BUFFER {
+    let Some(m) = read_if_given(rt, request.names, &mut names)? else {
         return Ok(());
-    }
+    };
     let mut out = [0u8; BUFFER];
     let mut stdout = rt.stdout();
     tell(
@@ -253,17 +239,17 @@ fn serve(rt: &HostRuntime, asked: Asked) -> io::Result<()> {
         &log[..l],
         &mut last[..s],
         &names[..m],
-        asked,
+        request,
         &mut out,
     )
 }
 
 fn main(rt: HostRuntime) -> io::Result<()> {
-    let asked = take_arguments(&rt);
-    if asked.is_complete() {
-        serve(&rt, asked)
-    } else {
-        let mut stderr = rt.stderr();
-        usage(&mut stderr)
+    match take_arguments(&rt) {
+        Ok(request) => serve(&rt, request),
+        Err(_) => {
+            let mut stderr = rt.stderr();
+            usage(&mut stderr)
+        }
     }
 }
