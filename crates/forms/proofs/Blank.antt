@@ -1,14 +1,14 @@
 -- Words that are all 0, looked at byte by byte.
 -- Assumes nothing.
-use Rattle.std.proofs.Common.{◌≡◌, List, [], ◌∷◌, ℕ, zero, suc, ◌+◌, ◌-◌, ◌*◌, ◌/◌, ◌<◌, ◌≤◌, ◌↔◌, length, length-drop, take, drop, refl, ◌∙◌, arith, bit_or}
+use Rattle.std.proofs.Common.{◌≡◌, List, [], ◌∷◌, ℕ, zero, suc, ◌+◌, ◌-◌, ◌*◌, ◌/◌, ◌<◌, ◌≤◌, ◌↔◌, length, take, drop, refl, arith, bit_or}
 use Rattle.std.specs.List.{fold}
-use Rattle.std.proofs.lemmas.List.{get_or-take, get_or-drop, get_or_past, length-take}
 use lib.Bits.{or_add_and, and_le_l, and_le_r}
 use lib.Dec.{eqb}
 use Rattle.model.proofs.Tab.{all-tells, below-or-past}
 use Rattle.model.proofs.Tests.{eqb_tells}
 use Rattle.model.proofs.Alls.{tells-same}
 use Rattle.forms.specs.Word.{byte, word, is_blank}
+use Rattle.forms.proofs.WordLaws.{byte-part, byte-part_past}
 
 -- numbers gathered by `|` come to 0 exactly where each is
 gathered : (xs : List ℕ) (a : ℕ) → (fold (λ x y. bit_or x y) a xs ≡ 0) ↔ ((a ≡ 0) × ((i : ℕ) → byte xs i ≡ 0))
@@ -40,7 +40,7 @@ blank-gathered s at n room =
     part = take (at + 2 * n - at) (drop at s)
 
     inside : (i : ℕ) → i < 2 * n → byte part i ≡ byte s (at + i)
-    inside i h = get_or-take (at + 2 * n - at) (drop at s) i 0 (omega arith) ∙ get_or-drop at s i 0
+    inside i h = byte-part s at (at + 2 * n - at) i (omega arith)
 
     words : ((i : ℕ) → byte part i ≡ 0) → (k : ℕ) → k < n → 256 * byte s (at + 2 * k) + byte s (at + 2 * k + 1) ≡ 0
     words g k h =
@@ -56,4 +56,4 @@ blank-gathered s at n room =
         below-or-past i (2 * k + 1)
         (λ even. let e : at + 2 * k ≡ at + i = omega arith in omega (arith, inside i h, rw e at word))
         (λ odd. let e : at + 2 * k + 1 ≡ at + i = omega arith in omega (arith, inside i h, rw e at word)))
-        (λ past. get_or_past part i 0 (simp (length-take, length-drop) (omega arith)))
+        (λ past. byte-part_past s at (at + 2 * n - at) i (omega arith))

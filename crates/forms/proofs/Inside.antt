@@ -16,7 +16,7 @@ use Rattle.forms.specs.Places.{row_at, row_length, inputs_at, outputs_at, mark_a
 use Rattle.forms.specs.Stored.{net_of, stored}
 use Rattle.forms.specs.Frame.{Framed}
 use Rattle.forms.proofs.Nets.{row_inside}
-use Rattle.forms.proofs.States.{places-small, places_same, transitions-small, transitions-same, transitions-model, width_small, lfd-below}
+use Rattle.forms.proofs.States.{places-small, places_same, transitions-small, transitions-same, transitions-model, lfd-below}
 use Rattle.forms.proofs.Stored.{tokens-are, count_is}
 
 module _ (net : List ℕ) (shape : Shape) (b : List ℕ) (f : Framed net shape b) where
@@ -49,13 +49,6 @@ module _ (net : List ℕ) (shape : Shape) (b : List ℕ) (f : Framed net shape b
       omega (arith, places-small net shape f.net_framed),
       omega (arith, transitions-small net shape f.net_framed, known-shape),
     )
-
-    pub count-limits : (age : Age) (c : Column) → age.0 < shape.width → c ≡ column_of age
-        → (shape.places < 256) × (shape.width ≤ 256) × (t < 256) × (0 < c.0) × (c.0 ≤ 256)
-    count-limits age c young e =
-        let column : c.0 ≡ age.0 + 1 = ap (λ (x : Column). x.0) e in
-        let wide = width_small net shape f.net_framed in
-        (row-limits.0, omega (arith, wide), row-limits.1, omega arith, omega (arith, wide))
 
     -- the weights of t stand within the net, and the markings within the state
     pub inputs-inside : (from : ℕ) → from ≡ inputs_at shape.places t

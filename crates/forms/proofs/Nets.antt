@@ -17,7 +17,7 @@ use lib.Dec.{eqb}
 use lib.ListN.{length}
 use Rattle.model.specs.declared.net.Net.{Net as Shape}
 use Rattle.model.specs.Tab.{Tells, largest}
-use Rattle.model.specs.Limits.{place_limit, transition_limit, duration_limit, is_sized, IsInterval, is_interval, shape_of}
+use Rattle.model.specs.Limits.{place_limit, transition_limit, duration_limit, IsInterval, is_interval, shape_of}
 use Rattle.model.specs.Net.{Net, HasInput, HasOutput, Accepted, width}
 use Rattle.model.proofs.Tab.{both-tell, all-tells}
 use Rattle.model.proofs.Tests.{tells_as, leb_tells, eqb_tells, not-tells, sized-tells, interval-tells, some-fails, told-true, told-false}
@@ -69,27 +69,6 @@ some-weight-tells n f =
 pub weight_found : (n : ℕ) (f : ℕ → ℕ) (found : Bool) → (found ≡ true) ↔ ((p : ℕ) × (p < n) × (0 < f p)) → found ≡ has_some_weight n f
 weight_found n f true h = sym (told-true (some-weight-tells n f) (h.0 refl))
 weight_found n f false h = sym (told-false (some-weight-tells n f) (λ some. not_yet (h.1 some)))
-
--- THE ANSWERS OF `check_net`
-
-module _ (b : List ℕ) where
-  pub net-no-frame : has_net_head b ≡ false → Err fault.NetFrame ≡ check_net b
-  unfolding check_net
-  net-no-frame f = rw f
-
-  pub net-no-size : has_net_head b ≡ true → is_sized (byte b 5) (byte b 6) ≡ false → Err fault.NetSize ≡ check_net b
-  unfolding check_net
-  net-no-size f s = rw (f, s)
-
-  pub net-no-length : has_net_head b ≡ true → is_sized (byte b 5) (byte b 6) ≡ true
-      → eqb (length b) (net_length (byte b 5) (byte b 6)) ≡ false → Err fault.NetLength ≡ check_net b
-  unfolding check_net
-  net-no-length f s l = rw (f, s, l)
-
-  pub net-rows : has_net_head b ≡ true → is_sized (byte b 5) (byte b 6) ≡ true
-      → eqb (length b) (net_length (byte b 5) (byte b 6)) ≡ true → in_turn (check_row (net_of b)) 0 (byte b 6) ≡ check_net b
-  unfolding check_net
-  net-rows f s l = rw (f, s, l)
 
 -- ONE TRANSITION
 
@@ -193,9 +172,6 @@ module _ (b : List ℕ) where
 -- WHAT A CHECKED NET GIVES THE CODE
 
 module _ (b : List ℕ) (n : IsNet b) where
-  pub net-least : 7 ≤ length b
-  net-least = n.head.least
-
   pub few_transitions : byte b 6 ≤ transition_limit
   few_transitions = n.sized.1.1
 

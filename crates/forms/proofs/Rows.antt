@@ -1,6 +1,6 @@
 -- The check of one transition, and of all in turn, as the code goes through them.
 -- Assumes nothing.
-use Rattle.std.proofs.lemmas.List.{get_or-take, get_or-drop, length-take}
+use Rattle.std.proofs.lemmas.List.{get_or-take, length-take}
 use Rattle.std.proofs.Common.{zero, suc, refl, ap, not, eqb, ◌-◌, length, length-drop, take, drop}
 use mathlib.Core.Path.{◌≡◌, ◌∙◌}
 use mathlib.Core.List.{List}
@@ -9,9 +9,9 @@ use native.Mathlib.Nat.{mul-le-mul_right}
 use native.Mathlib.Omega.{arith}
 use Rattle.model.specs.Tab.{all}
 use Rattle.forms.specs.Word.{byte}
-use Rattle.forms.specs.Places.{row_at, row_length, lfd_at}
-use Rattle.forms.specs.Stored.{net_of}
+use Rattle.forms.specs.Places.{row_at, row_length}
 use Rattle.forms.specs.Nets.{has_some_weight}
+use Rattle.forms.proofs.WordLaws.{byte-part}
 
 -- WHERE A ROW STANDS
 
@@ -19,19 +19,6 @@ use Rattle.forms.specs.Nets.{has_some_weight}
 pub row_within : (P t T : ℕ) → t < T → row_at P t + row_length P ≤ row_at P T
 unfolding row_at
 row_within P t T l = omega (arith, mul-le-mul_right (row_length P) l)
-
--- what the bytes of a row say, where P is read from the head
-module _ (net : List ℕ) (t P : ℕ) (p : P ≡ byte net 5) where
-  pub row_here : {n : ℕ} → row_at (byte net 5) t + row_length (byte net 5) ≤ n → row_at P t + row_length P ≤ n
-  row_here l = rw p l
-
-  pub sfd-is : (at w : ℕ) → at ≡ row_at P t → w ≡ byte net at → w ≡ (net_of net).sfd t
-  unfolding net_of
-  sfd-is at w r e = e ∙ rw (r, p)
-
-  pub lfd-is : (at w : ℕ) → at ≡ lfd_at P t → w ≡ byte net at → w ≡ (net_of net).lfd t
-  unfolding net_of
-  lfd-is at w r e = e ∙ rw (r, p)
 
 -- the weights in a part of a net, as the net has them
 pub weights_within : (net : List ℕ) (at n : ℕ) → at + n ≤ length net
@@ -47,9 +34,7 @@ weights_within net at n room =
 
     inside : (i : ℕ) → i < n → byte part i ≡ byte net (at + i)
     inside i h =
-        get_or-take n (take (length net - at) (drop at net)) i 0 h
-        ∙ get_or-take (length net - at) (drop at net) i 0 (omega arith)
-        ∙ get_or-drop at net i 0
+        get_or-take n (take (length net - at) (drop at net)) i 0 h ∙ byte-part net at (length net - at) i (omega arith)
 
     same : (k : ℕ) → k ≤ n → all k (λ i. eqb (byte part i) 0) ≡ all k (λ i. eqb (byte net (at + i)) 0)
     same zero h = refl

@@ -3,12 +3,10 @@
 -- Assumes nothing.
 use Rattle.std.proofs.Common.{Ok, Err}
 use mathlib.Core.Path.{◌≡◌, refl, sym, ap, ◌∙◌}
-use mathlib.Core.Bool.{false}
 use mathlib.Core.Logic.{◌↔◌}
 use mathlib.Core.List.{List}
 use Prim.Native.Nat.{ℕ, suc, ◌+◌, ◌-◌, ◌*◌, ◌<◌, ◌≤◌}
 use native.Mathlib.Nat.{mul-le-mul_right}
-use native.Mathlib.Numerals.{add-one}
 use native.Mathlib.Omega.{arith}
 use lib.ListN.{length}
 use Rattle.model.specs.declared.age.Column.{Column}
@@ -19,7 +17,7 @@ use Rattle.model.specs.Age.{column_of}
 use Rattle.model.specs.Net.{Net, Lawful, width}
 use Rattle.model.proofs.Tab.{both-tell, all-tells}
 use Rattle.model.proofs.Shape.{lfd-fits, width-short}
-use Rattle.model.proofs.Tests.{tells_as, leb_tells, eqb_tells, told-false}
+use Rattle.model.proofs.Tests.{tells_as, leb_tells, eqb_tells}
 use Rattle.forms.specs.Checked.{Checked}
 use Rattle.forms.specs.declared.fault.Fault.{Fault}
 use Rattle.forms.specs.declared.fault.Fault.TheVariants as fault
@@ -44,12 +42,6 @@ has-head-tells P T D b =
     (both-tell (leb_tells 8 (length b)) (both-tell (begins-tells b (state_length P T D))
     (both-tell (eqb_tells (byte b 5) P) (both-tell (eqb_tells (byte b 6) T)
     (both-tell (eqb_tells (byte b 7) D) (leb_tells (state_length P T D) (length b)))))))
-
-module _ (shape : Shape) (b : List ℕ) where
-  -- where the code finds something wrong
-  pub no_head : ¬ HasHead shape.places shape.transitions shape.width b
-      → false ≡ has_head shape.places shape.transitions shape.width b
-  no_head f = sym (told-false (has-head-tells shape.places shape.transitions shape.width b) f)
 
 -- WHAT A CHECKED NET WITH ITS SHAPE GIVES THE CODE
 
@@ -82,11 +74,6 @@ module _ (net : List ℕ) (shape : Shape) (f : FramedNet net shape) where
   unfolding net_of
   lfd-below t h = omega (arith, f.has_shape.width_is, lfd-fits (net_of net) t h)
 
-  -- the head of a state is that of the shape
-  pub head-same : (b : List ℕ) → has_head shape.places shape.transitions shape.width b
-      ≡ has_head (net_of net).places (net_of net).transitions (width (net_of net)) b
-  head-same b = rw (f.has_shape.places_are, f.has_shape.transitions_are, f.has_shape.width_is)
-
   -- the counts of t at the ages from `above` on stand within the state
   pub counts-inside : (b : List ℕ) (t above at : ℕ) (c : Column) → StateHead (net_of net) b → t < byte net 6 → above ≤ shape.width
       → c ≡ column_of (record { 0 = above }) → at ≡ count_at shape.places shape.width t c → at + 2 * (shape.width - above) ≤ length b
@@ -98,14 +85,6 @@ module _ (net : List ℕ) (shape : Shape) (f : FramedNet net shape) where
       ap (λ (x : ℕ). x * width (net_of net)) transitions-model ∙ ap (λ (x : ℕ). byte net 6 * x) (sym f.has_shape.width_is) in
       let column : c.0 ≡ above + 1 = ap (λ (x : Column). x.0) e in
       omega (arith, f.has_shape.places_are)
-
-  -- and what the code asks of them is `has_none_past`
-  pub past_is : (b : List ℕ) (t l at : ℕ) (c : Column) → l ≡ (net_of net).lfd t → c ≡ column_of (record { 0 = l + 1 })
-      → at ≡ count_at shape.places shape.width t c → is_blank b at (shape.width - (l + 1)) ≡ has_none_past (net_of net) b t
-  unfolding has_none_past
-  past_is b t l at c e g h =
-      let above : l + 1 ≡ suc ((net_of net).lfd t) = add-one l ∙ ap suc e in
-      rw (h, g, above, f.has_shape.places_are, f.has_shape.width_is)
 
 -- 8 AND 9
 

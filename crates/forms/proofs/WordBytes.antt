@@ -2,10 +2,11 @@
 -- Assumes nothing.
 use Rattle.std.proofs.Common.{append_assoc, ◌≡◌, List, [], ◌∷◌, ℕ, zero, suc, ◌+◌, ◌-◌, ◌*◌, ◌/◌, ◌%◌, ◌<◌, ◌≤◌, length, length-drop, refl, sym, ap, ◌∙◌, arith, take, drop, set, replicate}
 use borrow.Rule.Slice.PartMut.{put_mid}
-use Rattle.std.proofs.lemmas.List.{drop-drop, get_or-drop, get_or-take, get_or_past, length-replicate, length-take}
+use Rattle.std.proofs.lemmas.List.{drop-drop, length-replicate, length-take}
 use Rattle.std.proofs.lemmas.List.Edits.{sets, sets-eq}
 use Rattle.model.proofs.Tab.{below-or-past}
 use Rattle.forms.specs.Word.{Bytes, byte, word, set_word, set_word32, put_words}
+use Rattle.forms.proofs.WordLaws.{byte-part, byte-part_past}
 use Rattle.forms.proofs.Runs.{put_words-append}
 
 -- a part that is written over, from `at` to `end`, holds the bytes one after the other
@@ -100,9 +101,9 @@ put_copied s t base from n room whole small =
     part = take (from + 2 * n - from) (drop from t)
 
     inside : (i : ℕ) → i < 2 * n → byte part i ≡ byte t (from + i)
-    inside i h = get_or-take (from + 2 * n - from) (drop from t) i 0 (omega arith) ∙ get_or-drop from t i 0
+    inside i h = byte-part t from (from + 2 * n - from) i (omega arith)
 
     bytes : Bytes part
     bytes i =
         below-or-past i (2 * n) (λ h. rw inside (small (from + i)))
-        (λ past. rw (get_or_past part i 0 (simp (length-take, length-drop) (omega arith))) (omega arith))
+        (λ past. rw (byte-part_past t from (from + 2 * n - from) i (omega arith)) (omega arith))

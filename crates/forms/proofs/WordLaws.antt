@@ -7,9 +7,19 @@ use native.Mathlib.Nat.{div-add-mod, mul-le-mul_right}
 use native.Mathlib.Decide.{ℕ_discrete}
 use native.Mathlib.Numerals.{add-one}
 use native.Mathlib.Omega.{arith}
-use lib.ListN.{length, get_or, set, length-set}
+use lib.ListN.{length, get_or, set, take, drop, length-set, length-drop}
 use lib.Seq.{get_or-set_same, get_or-set_other, set_comm, set-set, set-get_or}
-use Rattle.forms.specs.Word.{Bytes, word, set_word, set_word32, put_words, put_rows}
+use Rattle.std.proofs.lemmas.List.{get_or-take, get_or-drop, get_or_past, length-take}
+use Rattle.forms.specs.Word.{Bytes, byte, word, set_word, set_word32, put_words, put_rows}
+
+-- ---- a byte of a part
+
+pub byte-part : (s : List ℕ) (from k i : ℕ) → i < k → byte (take k (drop from s)) i ≡ byte s (from + i)
+byte-part s from k i h = get_or-take k (drop from s) i 0 h ∙ get_or-drop from s i 0
+
+-- and past its end
+pub byte-part_past : (s : List ℕ) (from k i : ℕ) → k ≤ i → byte (take k (drop from s)) i ≡ 0
+byte-part_past s from k i h = get_or_past (take k (drop from s)) i 0 (simp (length-take, length-drop) (omega arith))
 
 -- ---- one word
 

@@ -20,7 +20,6 @@ fn has_head(net: &[u8]) -> bool
 }
 
 // Some weight is above 0.
-#[tactic(auto, using(crate::proofs::Nets::weight_found))]
 fn some_weight(weights: &[u8]) -> bool
     ensures { result ≡ has_some_weight (length weights.now) (byte weights.now) }
 {
