@@ -47,19 +47,6 @@ fn check_row(net: &[u8], t: usize) -> Result<(), Fault>
     Ok(())
 }
 
-// The transitions in turn, from the lowest.
-#[tactic(auto, using(crate::proofs::Rows::row_within, crate::proofs::Turns::turns))]
-fn check_rows(net: &[u8]) -> Result<(), Fault>
-    requires { (7 ≤ length net.now) × (row_at (byte net.now 5) (byte net.now 6) ≤ length net.now) }
-    ensures { result ≡ in_turn (check_row (net_of net.now)) 0 (byte net.now 6) }
-{
-    let transitions = usize::from(net[places::TRANSITIONS_AT]);
-    for t in 0..transitions {
-        check_row(net, t)?;
-    }
-    Ok(())
-}
-
 // The shortest duration of transition t of a checked net.
 #[tactic(auto, unfolding(crate::specs::Stored::net_of))]
 pub fn sfd(net: &[u8], t: usize) -> usize
@@ -89,8 +76,8 @@ pub fn shape_of(net: &[u8]) -> Net
     Net::new(places, transitions, longest + 1)
 }
 
-// Checks the bytes of a net.
-#[tactic(auto, unfolding(crate::specs::Nets::check_net, crate::specs::Nets::has_net_head))]
+// Checks the bytes of a net: its head, its size, its length, and the transitions in turn, from the lowest.
+#[tactic(auto, using(crate::proofs::Rows::row_within, crate::proofs::Turns::turns), unfolding(crate::specs::Nets::check_net, crate::specs::Nets::has_net_head))]
 pub fn check_net(net: &[u8]) -> Result<(), Fault>
     ensures { result ≡ check_net net.now }
 {
@@ -105,5 +92,8 @@ pub fn check_net(net: &[u8]) -> Result<(), Fault>
     if net.len() != places::row_at(places, transitions) {
         return Err(Fault::NetLength);
     }
-    check_rows(net)
+    for t in 0..transitions {
+        check_row(net, t)?;
+    }
+    Ok(())
 }

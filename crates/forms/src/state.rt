@@ -40,25 +40,16 @@ fn check_counts(net: CheckedNet, state: &[u8], t: usize) -> Result<(), Fault>
     Ok(())
 }
 
-// The transitions in turn, from the lowest.
-#[tactic(auto, using(crate::proofs::CheckedNets::limits, crate::proofs::Turns::turns))]
-fn check_all_counts(net: CheckedNet, state: &[u8]) -> Result<(), Fault>
-    requires { StateHead (net_of net.bytes.now) state.now }
-    ensures { result ≡ in_turn (check_counts (net_of net.entry.bytes.now) state.now) 0 (net_of net.entry.bytes.now).transitions }
-{
-    for t in 0..net.shape.transitions {
-        check_counts(net, state, t)?;
-    }
-    Ok(())
-}
-
-// Checks that a state of the net stands at the front of the buffer.
-#[tactic(auto, using(crate::proofs::CheckedNets::limits), unfolding(crate::specs::States::check_state))]
+// Checks that a state of the net stands at the front of the buffer: its head, and the transitions in turn, from the lowest.
+#[tactic(auto, using(crate::proofs::CheckedNets::limits, crate::proofs::Turns::turns), unfolding(crate::specs::States::check_state))]
 pub fn check_state(net: CheckedNet, state: &[u8]) -> Result<(), Fault>
     ensures { result ≡ check_state (net_of net.entry.bytes.now) state.now }
 {
     if !has_head(net.shape, state) {
         return Err(Fault::StateFrame);
     }
-    check_all_counts(net, state)
+    for t in 0..net.shape.transitions {
+        check_counts(net, state, t)?;
+    }
+    Ok(())
 }
