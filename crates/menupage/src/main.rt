@@ -35,8 +35,8 @@ fn usage<W: Write>(to: &mut W) -> io::Result<()> {
 fn take_arguments<E: Env>(env: &E) -> Asked {
     let mut first = [0u8; WORD_MOST];
     let mut second = [0u8; WORD_MOST];
-    let m = streams::argument(env, 1, &mut first);
-    let n = streams::argument(env, 2, &mut second);
+    let m = env.arg(1, &mut first).unwrap_or(0);
+    let n = env.arg(2, &mut second).unwrap_or(0);
     let count = streams::argument_count(env);
     let words = if 0 < count { count - 1 } else { 0 };
     arguments::read(words, &first[..m], &second[..n])

@@ -41,7 +41,7 @@ fn take_arguments<E: Env>(env: &E) -> Result<Request, Misuse> {
     let mut asked = Asked::default();
     for i in 1..streams::argument_count(env) {
         let mut word = [0u8; WORD_MOST];
-        let n = streams::argument(env, i, &mut word);
+        let n = env.arg(i, &mut word).unwrap_or(0);
         asked = asked.take(i, &word[..n])?;
     }
     asked.complete()
@@ -95,7 +95,7 @@ fn read_file(rt: &HostRuntime, i: usize, buf: &mut [u8]) -> io::Result<Option<us
     ensures buf_len_unchanged { length buf.new ≡ length buf.old }
 {
     let mut word = [0u8; WORD_MOST];
-    let n = streams::argument(rt, i, &mut word);
+    let n = rt.arg(i, &mut word).unwrap_or(0);
     match str::from_utf8(&word[..n]) {
         Ok(name) => read_named(rt, name, buf),
         Err(_) => {

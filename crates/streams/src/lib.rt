@@ -1,5 +1,5 @@
-// Bytes that a program takes from outside, put into lent buffers: what a reader gives, and the words that the program was started with. What it
-// writes goes through the standard library's own `write_all`.
+// What a program takes from outside: all that a reader gives, put into a lent buffer, and how many words the program was started with. What it
+// writes goes through the standard library's own `write_all`, and a word comes by its own `arg`.
 #![tactic(auto)]
 
 ghost use Rattle.std.specs.Prelude.{◌≡◌, ℕ, ◌≤◌, ◌<◌, take, length, IfOk, OnErr};
@@ -30,25 +30,9 @@ pub fn read_full<R: Read>(from: &mut R, buf: &mut [u8]) -> io::Result<usize>
     Ok(at)
 }
 
-// Puts the i-th word that the program was started with, of which the first is its own name, at the front of the buffer, and answers its length:
-// 0 where there is no such word, or it is longer than the buffer.
-pub fn argument<E: Env>(env: &E, i: usize, buf: &mut [u8]) -> usize
-    ensures in_bounds { IsPrefixLen result buf.new }
-    ensures buf_len_unchanged { length buf.new ≡ length buf.old }
-{
-    match env.arg(i, buf) {
-        Ok(n) => n,
-        Err(_) => 0,
-    }
-}
-
 // How many words the program was started with, its own name among them.
 pub fn argument_count<E: Env>(env: &E) -> usize {
-    let mut none = [0u8; 0];
-    for i in 0..usize::MAX {
-        if let Err(FillError::NotPresent) = env.arg(i, &mut none) {
-            return i;
-        }
-    }
-    usize::MAX
+    (0..usize::MAX)
+        .find(|i| matches!(env.arg(*i, &mut []), Err(FillError::NotPresent)))
+        .unwrap_or(usize::MAX)
 }
