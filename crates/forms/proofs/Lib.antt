@@ -4,7 +4,6 @@ pub mod WordBytes
 pub mod Stored
 pub mod Written
 pub mod Blank
-pub mod Small
 pub mod Rows
 pub mod Turns
 pub mod Nets

@@ -56,12 +56,17 @@ module _ (b : List ℕ) (small : Bytes b) (n : IsNet b) where
   row t (suc (suc j)) h =
       below-or-past j P
       (λ l. let e : row_at P t + suc (suc j) ≡ row_at P t + 2 + j = omega arith in
-      sym (before P (tab P _) (tab P _) j (length-tab P _) l ∙ get_or-tab P _ j 0 l ∙ ap (byte b) (sym e)))
+      rw e (sym (before P takes gives j (length-tab P _) l ∙ get_or-tab P _ j 0 l)))
       (λ l. let q = j - P in
       let e : row_at P t + suc (suc j) ≡ row_at P t + 2 + P + q = omega arith in
       let at : P + q ≡ j = omega arith in
-      sym (ap (byte (tab P ((net_of b).takes t) ++ tab P ((net_of b).gives t))) (sym at)
-      ∙ behind P (tab P _) (tab P _) q (length-tab P _) ∙ get_or-tab P _ q 0 (omega arith) ∙ ap (byte b) (sym e)))
+      rw e (sym (ap (byte (takes ++ gives)) (sym at) ∙ behind P takes gives q (length-tab P _) ∙ get_or-tab P _ q 0 (omega arith))))
+    where
+      takes : List ℕ
+      takes = tab P ((net_of b).takes t)
+
+      gives : List ℕ
+      gives = tab P ((net_of b).gives t)
 
   each : (i : ℕ) → i < length b → byte b i ≡ byte (net_bytes (net_of b)) i
   unfolding net_of row_at

@@ -10,13 +10,15 @@ use Rattle.forms.proofs.WordLaws.{byte-part, byte-part_past}
 use Rattle.forms.proofs.Runs.{put_words-append}
 
 -- a part that is written over, from `at` to `end`, holds the bytes one after the other
-pub put_mid-sets : (s : List ℕ) (at end : ℕ) (ys : List ℕ) → at + length ys ≡ end → end ≤ length s → put_mid at (end - at) s ys ≡ sets s at ys
+pub put_mid-sets : (s : List ℕ) (at end : ℕ) (ys : List ℕ) → at + length ys ≡ end → end ≤ length s
+    → put_mid at (end - at) s ys ≡ sets s at ys
 put_mid-sets s at end ys e h =
     let width : end - at ≡ length ys = omega arith in
     rw (width, drop-drop, ← append_assoc) (sym (sets-eq ys s at (omega arith)))
 
 -- the two bytes of a number are its word
-pub put_two : (s : List ℕ) (at v : ℕ) → at + 1 < length s → v < 65536 → put_mid at (at + 2 - at) s (v / 256 % 256 ∷ v % 256 ∷ []) ≡ set_word s at v
+pub put_two : (s : List ℕ) (at v : ℕ) → at + 1 < length s → v < 65536
+    → put_mid at (at + 2 - at) s (v / 256 % 256 ∷ v % 256 ∷ []) ≡ set_word s at v
 unfolding set_word
 put_two s at v h l =
     let high : v / 256 % 256 ≡ v / 256 = omega arith in
@@ -31,11 +33,15 @@ put_four s at v h l =
     let first : v / 16777216 % 256 ≡ v / 65536 / 256 = omega arith in
     let third : v / 256 % 256 ≡ v % 65536 / 256 = omega arith in
     let fourth : v % 256 ≡ v % 65536 % 256 = omega arith in
-    let places : (suc at ≡ at + 1) × (suc (suc at) ≡ at + 2) × (suc (suc (suc at)) ≡ at + 2 + 1) = (omega arith, omega arith, omega arith) in
-    rw (first, third, fourth, put_mid-sets s at (at + 4) (v / 65536 / 256 ∷ v / 65536 % 256 ∷ v % 65536 / 256 ∷ v % 65536 % 256 ∷ []) refl (omega arith), places.2, places.1, places.0)
+    let one : suc at ≡ at + 1 = omega arith in
+    let two : suc (suc at) ≡ at + 2 = omega arith in
+    let three : suc (suc (suc at)) ≡ at + 2 + 1 = omega arith in
+    let bytes = v / 65536 / 256 ∷ v / 65536 % 256 ∷ v % 65536 / 256 ∷ v % 65536 % 256 ∷ [] in
+    rw (first, third, fourth, put_mid-sets s at (at + 4) bytes refl (omega arith), three, two, one)
 
 -- two bytes of a list are its first word
-first_word : (s : List ℕ) (base h l v : ℕ) (rest : List ℕ) → l < 256 → word (h ∷ l ∷ rest) 0 ≡ v → set (set s base h) (suc base) l ≡ set_word s (base + 0) v
+first_word : (s : List ℕ) (base h l v : ℕ) (rest : List ℕ) → l < 256 → word (h ∷ l ∷ rest) 0 ≡ v
+    → set (set s base h) (suc base) l ≡ set_word s (base + 0) v
 unfolding word set_word
 first_word s base h l v rest b w =
     let high : v / 256 ≡ h = omega arith in

@@ -45,7 +45,8 @@ impl From<Fault> for u8 {
 }
 
 impl Fault {
-    // The transition at fault, or 0 where none is told. Each fault is named, so that a new one must say what it tells.
+    // The transition at fault, or 0 where none is told, which the C interface has for its index. Each fault is named, so that a new one
+    // must say what it tells.
     pub fn index(self) -> usize
         ensures { result ≡ index_of_fault self }
     {

@@ -36,7 +36,7 @@ pub fn initial_at(p: usize) -> usize
 }
 
 // Where the bytes of transition t begin in a net of so many places: its sfd. The net ends where another would begin.
-#[tactic(auto, using(crate::proofs::Small::product_small), unfolding(crate::specs::Places::row_at))]
+#[tactic(auto, unfolding(crate::specs::Places::row_at))]
 pub fn row_at(places: usize, t: usize) -> usize
     requires { (places < 256) × (t < 256) }
     ensures { (result ≡ row_at places t) × (result < 262144) }
@@ -93,7 +93,7 @@ pub fn cells(shape: Net) -> usize
 }
 
 // Where the count of transition t in a column stands in a state.
-#[tactic(auto, using(crate::proofs::Small::product_small), unfolding(crate::specs::Places::count_at))]
+#[tactic(auto, unfolding(crate::specs::Places::count_at))]
 pub fn count_at(shape: Net, t: usize, column: Column) -> usize
     requires { (shape.places < 256) × (shape.width ≤ 256) × (t < 256) × (0 < column.0) × (column.0 ≤ 256) }
     ensures { result ≡ count_at shape.places shape.width t column }

@@ -1,4 +1,5 @@
-// Big-endian words of two and four bytes in a slice of bytes.
+// Big-endian words of two and four bytes in a slice of bytes. The place goes beside the slice, and no part of it is taken: the clauses
+// speak of the whole slice, as the definitions of specs/Word.antt do.
 ghost use Rattle.std.specs.Prelude.{◌≡◌, ◌+◌, ◌*◌, ◌<◌, ◌≤◌, length};
 ghost use Rattle.forms.specs.Word.{word, word32, is_blank, set_word, set_word32, put_words};
 
