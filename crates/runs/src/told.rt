@@ -1,4 +1,4 @@
-// What a run and what a walk back tells.
+// What a run and what a walk back tells: numbers, as the C interface hands them on, whether a fault, a refusal or nothing stopped it.
 ghost use Rattle.std.specs.Prelude.{◌≡◌};
 ghost use Rattle.runs.specs.Runs.{run_fault, walk_fault};
 
