@@ -1,5 +1,6 @@
 -- What the calls tell of the checks: the initial state of a net that got past them, 0 of nothing that did not, and each fault.
 -- Assumes nothing.
+use Rattle.std.proofs.Common.{Ok, Err}
 use mathlib.Core.Path.{◌≡◌, refl, sym, ap, ◌∙◌}
 use mathlib.Core.List.{List}
 use Prim.Native.Nat.{ℕ, ◌<◌, ◌≤◌}
@@ -9,9 +10,7 @@ use borrow.Author.Tests.{le-leb, lt-leb}
 use Rattle.model.specs.declared.net.Net.{Net as Shape}
 use Rattle.forms.specs.declared.fault.Fault.{Fault}
 use Rattle.forms.specs.declared.fault.Fault.TheVariants as fault
-use Rattle.forms.specs.declared.fault.Checked.{Checked}
-use Rattle.forms.specs.declared.fault.Checked.TheVariants as checked
-use Rattle.forms.specs.Checked.{number_of, number_of_fault}
+use Rattle.forms.specs.Checked.{Checked, number_of, number_of_fault}
 use Rattle.forms.specs.Word.{Bytes}
 use Rattle.forms.specs.Places.{image_length}
 use Rattle.forms.specs.Stored.{net_of}
@@ -25,9 +24,7 @@ use Rattle.engine.specs.declared.answers.Verdict.{Verdict}
 use Rattle.engine.specs.declared.answers.EventTold.{EventTold}
 use Rattle.engine.specs.declared.answers.DegreeTold.{DegreeTold}
 use Rattle.engine.specs.declared.answers.OwedTold.{OwedTold}
-use Rattle.engine.specs.declared.examine.Examined.{Examined}
-use Rattle.engine.specs.declared.examine.Examined.TheVariants as examined
-use Rattle.engine.specs.Examined.{if_good, examine_net, examine_state, examine_log, if_fit}
+use Rattle.engine.specs.Examined.{Examined, if_good, examine_net, examine_state, examine_log, if_fit}
 use Rattle.engine.specs.Answers.{accepted, verdict_of, unfit, event_unfit, no_degree, no_report}
 use Rattle.engine.specs.Calls.{net_told, state_told, initial_told, initial_left, event_told, event_left, back_told, back_left}
 use Rattle.engine.specs.Calls.{degree_told, owed_told, run_told, run_left, walk_told, walk_left, step_told}
@@ -37,7 +34,7 @@ use Rattle.engine.proofs.PastChecks.{fits-state}
 
 -- THE INITIAL STATE
 
-module _ (net b : List ℕ) (shape : Shape) (e : examine_net net ≡ examined.Fit shape) where
+module _ (net b : List ℕ) (shape : Shape) (e : examine_net net ≡ Ok shape) where
   initial-told : initial_told net b ≡ verdict_of (check_room (net_of net) b)
   unfolding initial_told
   initial-told = rw e
@@ -46,11 +43,11 @@ module _ (net b : List ℕ) (shape : Shape) (e : examine_net net ≡ examined.Fi
   unfolding initial_left
   initial-left = rw e
 
-  roomy : image_length (net_of net) ≤ length b → check_room (net_of net) b ≡ checked.Good
+  roomy : image_length (net_of net) ≤ length b → check_room (net_of net) b ≡ Ok tt
   unfolding check_room
   roomy h = rw (le-leb (image_length (net_of net)) (length b) h)
 
-  narrow : length b < image_length (net_of net) → (check_room (net_of net) b ≡ checked.Bad fault.NoRoom) × (after_initial (net_of net) b ≡ b)
+  narrow : length b < image_length (net_of net) → (check_room (net_of net) b ≡ Err fault.NoRoom) × (after_initial (net_of net) b ≡ b)
   unfolding check_room after_initial
   narrow h = rw (lt-leb (image_length (net_of net)) (length b) h) (refl, refl)
 
@@ -88,13 +85,13 @@ fault-number fault.LogFrame e = absurd (omega arith)
 zero-passes : {A : Type 0} (e : Examined) (go : A) (stop : Fault → A) (number : A → ℕ)
     → ((why : Fault) → number (stop why) ≡ number_of_fault why)
     → number (if_fit e go stop) ≡ 0 → Passes e
-zero-passes (examined.Fit shape) go stop number is z = (shape, refl)
-zero-passes (examined.Unfit why) go stop number is z = fault-number why (sym (is why) ∙ z)
+zero-passes (Ok shape) go stop number is z = (shape, refl)
+zero-passes (Err why) go stop number is z = fault-number why (sym (is why) ∙ z)
 
 -- the check of a net alone
-net-zero : (c : Checked) (shape : Shape) → number_of c ≡ 0 → Passes (if_good c (examined.Fit shape))
-net-zero checked.Good shape z = (shape, refl)
-net-zero (checked.Bad why) shape z = fault-number why z
+net-zero : (c : Checked) (shape : Shape) → number_of c ≡ 0 → Passes (if_good c (Ok shape))
+net-zero (Ok tt) shape z = (shape, refl)
+net-zero (Err why) shape z = fault-number why z
 
 pub told_passes : (net b : List ℕ) → ToldPasses net b
 unfolding net_told state_told initial_told event_told back_told degree_told owed_told run_told walk_told examine_net

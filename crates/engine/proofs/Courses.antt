@@ -1,5 +1,6 @@
 -- Outcomes by the numbers that are told of them; and runs and walks of the model, as the demands on bytes use them.
 -- Assumes nothing.
+use Rattle.std.proofs.Common.{Ok, Err}
 use mathlib.Core.Path.{◌≡◌, refl, sym, ap, subst, ◌∙◌}
 use mathlib.Core.Bool.{Bool}
 use mathlib.Core.List.{List, [], ◌++◌}
@@ -11,9 +12,7 @@ use borrow.Author.Tests.{lt-ltb}
 use Rattle.model.specs.declared.event.Event.{Event}
 use Rattle.model.specs.declared.event.Event.TheVariants as event
 use Rattle.model.specs.declared.answer.Refusal.{Refusal}
-use Rattle.model.specs.declared.answer.Answer.{Answer}
-use Rattle.model.specs.declared.answer.Answer.TheVariants as answer
-use Rattle.model.specs.Answer.{Telling, telling_of_refusal, telling_of, number_of as number_of_answer, number_of_refusal}
+use Rattle.model.specs.Answer.{Answer, Telling, telling_of_refusal, telling_of, number_of as number_of_answer, number_of_refusal}
 use Rattle.model.specs.Net.{Net, State, Lawful}
 use Rattle.model.specs.Rules.{Outcome, done, refused, answer_of}
 use Rattle.model.specs.Run.{RunTold as RunAccount, WalkTold as WalkAccount, Leads, LeadsLast, stay, RunCloses, WalkCloses, Walked, ticks_in}
@@ -53,10 +52,10 @@ pub record ComesTo {A : Type 0} (tell : Answer → A) (N : Net) (b : List ℕ) (
   pub wrote : b' ≡ after N o b
 
 module _ {A : Type 0} {tell : Answer → A} {N : Net} {b : List ℕ} {o : Outcome} {r : A} {b' : List ℕ} (c : ComesTo tell N b o r b') where
-  pub on-done : (S' : State) → o ≡ done S' → (r ≡ tell answer.Done) × (b' ≡ written N S' b)
+  pub on-done : (S' : State) → o ≡ done S' → (r ≡ tell (Ok tt)) × (b' ≡ written N S' b)
   on-done S' d = (c.said ∙ ap (λ (x : Outcome). tell (answer_of x)) d, c.wrote ∙ ap (λ (x : Outcome). after N x b) d)
 
-  pub on-refused : (why : Refusal) → o ≡ refused why → r ≡ tell (answer.Refused why)
+  pub on-refused : (why : Refusal) → o ≡ refused why → r ≡ tell (Err why)
   on-refused why d = c.said ∙ ap (λ (x : Outcome). tell (answer_of x)) d
 
   -- where the number that is told is the answer's
@@ -72,7 +71,7 @@ module _ {A : Type 0} {tell : Answer → A} {N : Net} {b : List ℕ} {o : Outcom
 
 -- an event done tells all that makes its refusal out
 pub is-refused : {N : Net} {b : List ℕ} {o : Outcome} {r : EventTold} {b' : List ℕ} → ComesTo event_answered N b o r b'
-    → (why : Refusal) → r ≡ event_answered (answer.Refused why) → o ≡ refused why
+    → (why : Refusal) → r ≡ event_answered (Err why) → o ≡ refused why
 is-refused {o = o} c why e = told-refused o why (ap telling (sym c.said ∙ e))
   where
     telling : EventTold → Telling
@@ -81,7 +80,7 @@ is-refused {o = o} c why e = told-refused o why (ap telling (sym c.said ∙ e))
 -- and one taken back tells its number, which is never 13
 pub is-barred : {N : Net} {b : List ℕ} {o : Outcome} {r : Verdict} {b' : List ℕ} → ComesTo answered N b o r b'
     → ((w : Refusal) → o ≡ refused w → ¬ (number_of_refusal w ≡ 13))
-    → (why : Refusal) → r ≡ answered (answer.Refused why) → o ≡ refused why
+    → (why : Refusal) → r ≡ answered (Err why) → o ≡ refused why
 is-barred {o = o} c other why e = number-refused o why other (ap (λ (x : Verdict). x.number) (sym c.said ∙ e))
 
 -- RUNS AND WALKS OF THE MODEL

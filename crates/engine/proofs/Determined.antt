@@ -2,35 +2,34 @@
 -- are equal, and so are two lists that it permits a lent buffer to hold at exit. What is cited is the promise itself, as a caller
 -- learns it.
 -- Assumes nothing.
+use Rattle.std.proofs.Common.{List, ℕ, Bor, Result, Ok, Err}
 use mathlib.Core.Path.{◌≡◌, sym, ◌∙◌}
 use contract.Lifetimes.{Lfts}
 use denote.Triple.Clauses.{AtExit}
 use borrow.Fn.Kinds.{Dens, res_t, ended_of}
+use Rattle.model.specs.declared.net.Net.{Net as Shape}
+use Rattle.forms.specs.declared.checked.CheckedNet.{CheckedNet}
+use Rattle.forms.specs.declared.fault.Fault.{Fault}
+use Rattle.engine.specs.Examined.{Examined, Finds}
 use Rattle.model.proofs.Determined.{Determined, LeavesOne}
-use Rattle.engine.proofs.answers.Verdict.of.Reads as verdict-of
-use Rattle.engine.proofs.answers.Verdict.of.Kinds as verdict-of-kinds
-use Rattle.engine.proofs.answers.Verdict.unfit.Reads as verdict-unfit
-use Rattle.engine.proofs.answers.Verdict.unfit.Kinds as verdict-unfit-kinds
-use Rattle.engine.proofs.answers.Verdict.answered.Reads as verdict-answered
-use Rattle.engine.proofs.answers.Verdict.answered.Kinds as verdict-answered-kinds
-use Rattle.engine.proofs.answers.EventTold.unfit.Reads as eventtold-unfit
-use Rattle.engine.proofs.answers.EventTold.unfit.Kinds as eventtold-unfit-kinds
-use Rattle.engine.proofs.answers.EventTold.answered.Reads as eventtold-answered
-use Rattle.engine.proofs.answers.EventTold.answered.Kinds as eventtold-answered-kinds
-use Rattle.engine.proofs.answers.DegreeTold.unfit.Reads as degreetold-unfit
-use Rattle.engine.proofs.answers.DegreeTold.unfit.Kinds as degreetold-unfit-kinds
-use Rattle.engine.proofs.answers.OwedTold.of.Reads as owedtold-of
-use Rattle.engine.proofs.answers.OwedTold.of.Kinds as owedtold-of-kinds
-use Rattle.engine.proofs.answers.OwedTold.unfit.Reads as owedtold-unfit
-use Rattle.engine.proofs.answers.OwedTold.unfit.Kinds as owedtold-unfit-kinds
+use Rattle.engine.proofs.answers.VerdictFromResultUnitFault.from.Reads as verdict-of
+use Rattle.engine.proofs.answers.VerdictFromResultUnitFault.from.Kinds as verdict-of-kinds
+use Rattle.engine.proofs.answers.VerdictFromFault.from.Reads as verdict-unfit
+use Rattle.engine.proofs.answers.VerdictFromFault.from.Kinds as verdict-unfit-kinds
+use Rattle.engine.proofs.answers.VerdictFromResultUnitRefusal.from.Reads as verdict-answered
+use Rattle.engine.proofs.answers.VerdictFromResultUnitRefusal.from.Kinds as verdict-answered-kinds
+use Rattle.engine.proofs.answers.EventToldFromFault.from.Reads as eventtold-unfit
+use Rattle.engine.proofs.answers.EventToldFromFault.from.Kinds as eventtold-unfit-kinds
+use Rattle.engine.proofs.answers.EventToldFromResultUnitRefusal.from.Reads as eventtold-answered
+use Rattle.engine.proofs.answers.EventToldFromResultUnitRefusal.from.Kinds as eventtold-answered-kinds
+use Rattle.engine.proofs.answers.DegreeToldFromFault.from.Reads as degreetold-unfit
+use Rattle.engine.proofs.answers.DegreeToldFromFault.from.Kinds as degreetold-unfit-kinds
+use Rattle.engine.proofs.answers.OwedToldFromOwed.from.Reads as owedtold-of
+use Rattle.engine.proofs.answers.OwedToldFromOwed.from.Kinds as owedtold-of-kinds
+use Rattle.engine.proofs.answers.OwedToldFromFault.from.Reads as owedtold-unfit
+use Rattle.engine.proofs.answers.OwedToldFromFault.from.Kinds as owedtold-unfit-kinds
 use Rattle.engine.proofs.answers.StepTold.refused.Reads as steptold-refused
 use Rattle.engine.proofs.answers.StepTold.refused.Kinds as steptold-refused-kinds
-use Rattle.engine.proofs.examine.examine_net.Reads as examine-net
-use Rattle.engine.proofs.examine.examine_net.Kinds as examine-net-kinds
-use Rattle.engine.proofs.examine.examine_state.Reads as examine-state
-use Rattle.engine.proofs.examine.examine_state.Kinds as examine-state-kinds
-use Rattle.engine.proofs.examine.examine_log.Reads as examine-log
-use Rattle.engine.proofs.examine.examine_log.Kinds as examine-log-kinds
 use Rattle.engine.proofs.calls.check_net.Reads as check-net
 use Rattle.engine.proofs.calls.check_net.Kinds as check-net-kinds
 use Rattle.engine.proofs.calls.check_state.Reads as check-state
@@ -81,14 +80,19 @@ owedtold-unfit-determined κs args x y s s' p q = p ∙ sym q
 pub steptold-refused-determined : Determined 0 steptold-refused-kinds.ps steptold-refused-kinds.r steptold-refused.Learnt
 steptold-refused-determined κs args x y s s' p q = p ∙ sym q
 
-pub examine-net-determined : Determined 1 examine-net-kinds.ps examine-net-kinds.r examine-net.Learnt
-examine-net-determined κs args x y s s' p q = p ∙ sym q
+-- an examination: the net's bytes and its shape, or the fault
+abbrev finding : Result CheckedNet Fault → Result (Bor (List ℕ) × Shape) Fault
+finding (Ok net) = Ok (net.bytes, net.shape)
+finding (Err why) = Err why
 
-pub examine-state-determined : Determined 2 examine-state-kinds.ps examine-state-kinds.r examine-state.Learnt
-examine-state-determined κs args x y s s' p q = p ∙ sym q
-
-pub examine-log-determined : Determined 3 examine-log-kinds.ps examine-log-kinds.r examine-log.Learnt
-examine-log-determined κs args x y s s' p q = p ∙ sym q
+pub finds-determined : (bytes : Bor (List ℕ)) (found : Examined) (r r' : Result CheckedNet Fault) → Finds bytes found r → Finds bytes found r'
+    → finding r ≡ finding r'
+finds-determined bytes found (Ok net) (Ok net') (s, b) (s', b') =
+    let same : net.shape ≡ net'.shape = let e = sym s ∙ s' in cc in
+    λ i. Ok ((b ∙ sym b') i, same i)
+finds-determined bytes found (Ok net) (Err why) (s, b) f = let e : Ok net.shape ≡ Err why = sym s ∙ f in cc
+finds-determined bytes found (Err why) (Ok net) f (s, b) = let e : Ok net.shape ≡ Err why = sym s ∙ f in cc
+finds-determined bytes found (Err why) (Err why') f f' = let e = sym f ∙ f' in cc
 
 pub check-net-determined : Determined 1 check-net-kinds.ps check-net-kinds.r check-net.Learnt
 check-net-determined κs args x y s s' p q = p.0 ∙ sym q.0

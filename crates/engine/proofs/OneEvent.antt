@@ -1,5 +1,6 @@
 -- Demands 2 and 3 on bytes, for one event done and taken back.
 -- Assumes nothing.
+use Rattle.std.proofs.Common.{Err}
 use mathlib.Core.Path.{◌≡◌, refl, sym, ap, subst, ◌∙◌}
 use mathlib.Core.Bool.{Bool}
 use mathlib.Core.Logic.{◌↔◌}
@@ -10,8 +11,7 @@ use Rattle.model.specs.declared.event.Event.{Event}
 use Rattle.model.specs.declared.answer.Short.{Short}
 use Rattle.model.specs.declared.answer.Refusal.{Refusal}
 use Rattle.model.specs.declared.answer.Refusal.TheVariants as refusal
-use Rattle.model.specs.declared.answer.Answer.{Answer}
-use Rattle.model.specs.declared.answer.Answer.TheVariants as answer
+use Rattle.model.specs.Answer.{Answer}
 use Rattle.model.specs.Event.{event_of}
 use Rattle.model.specs.Refusals.{Refuses, FallsShort, Barred}
 use Rattle.model.specs.Net.{Net, State, Lawful}
@@ -81,12 +81,12 @@ module _ (net : List ℕ) (shape : Shape) (b : List ℕ) (f : Framed net shape b
     pub event-done : EventDone net b first second started (event_told net b first second started) (event_left net b first second started)
     event-done =
         let c = event-comes net shape b f first second started in
-        let told : (why : Refusal) → (event_told net b first second started ≡ event_answered (answer.Refused why)) ↔ Refuses N started S e why =
+        let told : (why : Refusal) → (event_told net b first second started ≡ event_answered (Err why)) ↔ Refuses N started S e why =
         λ why. (
           (λ z. (apply-refuses N started S e why).0 (is-refused c why z)),
           λ h. on-refused c why ((apply-refuses N started S e why).1 h),
         ) in
-        let short : (s : Short) → (event_told net b first second started ≡ event_answered (answer.Refused (refusal.NotEnabled s))) ↔ FallsShort N S e s =
+        let short : (s : Short) → (event_told net b first second started ≡ event_answered (Err (refusal.NotEnabled s))) ↔ FallsShort N S e s =
         λ s.
         let why = refusal.NotEnabled s in
         ((λ z. falls_short ((told why).0 z)), λ h. on-refused c why ((short_told N started S e s).1 h)) in
@@ -130,7 +130,7 @@ module _ (net : List ℕ) (shape : Shape) (b : List ℕ) (f : Framed net shape b
     pub event-back : EventBack net b first second started (back_told net b first second started) (back_left net b first second started)
     event-back =
         let c = back-comes net shape b f first second started in
-        let told : (why : Refusal) → (back_told net b first second started ≡ answered (answer.Refused why)) ↔ Barred N started S e why =
+        let told : (why : Refusal) → (back_told net b first second started ≡ answered (Err why)) ↔ Barred N started S e why =
         λ why. (
           (λ z. (back-refuses N started S e why).0 (is-barred c (λ w d. barred-other ((back-refuses N started S e w).0 d)) why z)),
           λ h. on-refused c why ((back-refuses N started S e why).1 h),

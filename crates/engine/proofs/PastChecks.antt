@@ -1,6 +1,7 @@
 -- Past the checks: bytes in their frame are found fit, and then each call tells what the model computes of what stands in the bytes,
 -- and leaves the model's state written over the front.
 -- Assumes nothing.
+use Rattle.std.proofs.Common.{Ok}
 use mathlib.Core.Path.{◌≡◌, sym}
 use mathlib.Core.Bool.{Bool}
 use mathlib.Core.List.{List}
@@ -18,7 +19,6 @@ use Rattle.forms.proofs.Logs.{log-exact}
 use Rattle.owed.specs.Reported.{reported}
 use Rattle.moves.specs.After.{applied, state_taken_back}
 use Rattle.runs.specs.Runs.{ran, walked, told_of_run, told_of_walk}
-use Rattle.engine.specs.declared.examine.Examined.TheVariants as examined
 use Rattle.engine.specs.Examined.{examine_net, examine_state, examine_log}
 use Rattle.engine.specs.Answers.{answered, event_answered, degree_of, owed_of}
 use Rattle.engine.specs.Calls.{event_told, event_left, back_told, back_left}
@@ -29,14 +29,14 @@ use Rattle.engine.proofs.Courses.{ComesTo}
 -- BYTES IN THEIR FRAME ARE FOUND FIT
 
 module _ (net : List ℕ) (shape : Shape) (b : List ℕ) (f : Framed net shape b) where
-  fits-net : examine_net net ≡ examined.Fit shape
+  fits-net : examine_net net ≡ Ok shape
   fits-net = sym (net-fit net shape ((net-exact net).1 f.net_framed.is_net) f.net_framed.has_shape)
 
-  pub fits-state : examine_state net b ≡ examined.Fit shape
+  pub fits-state : examine_state net b ≡ Ok shape
   unfolding examine_state
   fits-state = sym (still-fit (examine_net net) (check_state (net_of net) b) fits-net ((state-exact (net_of net) b).1 f.is_state))
 
-  pub fits-log : (log : List ℕ) → IsLog log → examine_log net b log ≡ examined.Fit shape
+  pub fits-log : (log : List ℕ) → IsLog log → examine_log net b log ≡ Ok shape
   unfolding examine_log
   fits-log log l = sym (still-fit (examine_state net b) (check_log log) fits-state ((log-exact log).1 l))
 

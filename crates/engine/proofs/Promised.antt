@@ -1,21 +1,19 @@
 -- Each call's promise of the bytes that it was lent, from what its contract says it tells and leaves: the demands, put to use. Each takes
 -- what the call's own proof learns of its slices, that their elements are bytes.
 -- Assumes nothing.
+use Rattle.std.proofs.Common.{Ok, Err, Fits, w8, slice_index, arith}
 use mathlib.Core.Path.{◌≡◌, refl, sym, ap, ◌∙◌}
 use mathlib.Core.Bool.{Bool}
 use mathlib.Core.List.{List, []}
 use Prim.Native.Nat.{ℕ}
 use denote.Ref.{Bor}
 use Rattle.forms.specs.declared.fault.Fault.{Fault}
-use Rattle.forms.specs.declared.fault.Checked.{Checked}
-use Rattle.forms.specs.declared.fault.Checked.TheVariants as checked
+use Rattle.forms.specs.Checked.{Checked}
 use Rattle.forms.specs.Word.{Bytes}
 use Rattle.forms.specs.Nets.{check_net}
 use Rattle.forms.specs.Logs.{check_log}
 use Rattle.forms.proofs.Logs.{log-exact, log-faulty}
-use Rattle.engine.specs.declared.examine.Examined.{Examined}
-use Rattle.engine.specs.declared.examine.Examined.TheVariants as examined
-use Rattle.engine.specs.Examined.{examine_net, examine_state, examine_log}
+use Rattle.engine.specs.Examined.{Examined, examine_net, examine_state, examine_log}
 use Rattle.engine.specs.Answers.{verdict_of}
 use Rattle.engine.specs.Said.{says}
 use Rattle.engine.specs.Calls.{net_told, state_told, initial_told, initial_left, event_told, event_left, back_told, back_left}
@@ -50,18 +48,18 @@ adds-two P x y p r b' (t, l) = (t, (l, rw (t, l) p))
 
 -- by what the examination found
 pub by_cases : {unfit : Fault → Type 0} {fit : Type 0} {refused : Fault → Type 0} {done : Type 0} (e : Examined)
-    → ((why : Fault) → e ≡ examined.Unfit why → unfit why × refused why) → (Passes e → fit × done) → Promise unfit fit refused done
-by_cases (examined.Fit shape) bad good = let (f, d) = good (shape, refl) in Promise.in_form f d
-by_cases (examined.Unfit why) bad good = let (u, r) = bad why refl in Promise.at_fault why u r
+    → ((why : Fault) → e ≡ Err why → unfit why × refused why) → (Passes e → fit × done) → Promise unfit fit refused done
+by_cases (Ok shape) bad good = let (f, d) = good (shape, refl) in Promise.in_form f d
+by_cases (Err why) bad good = let (u, r) = bad why refl in Promise.at_fault why u r
 
 module _ {refused : Fault → Type 0} {done : Type 0} (net : List ℕ) (bytes : Bytes net) where
-  of-net : ((why : Fault) → examine_net net ≡ examined.Unfit why → refused why) → (Passes (examine_net net) → done) → OfNet net refused done
+  of-net : ((why : Fault) → examine_net net ≡ Err why → refused why) → (Passes (examine_net net) → done) → OfNet net refused done
   of-net bad good =
       let x = examines net [] [] in
       by_cases (examine_net net) (λ why e. ((x.net_faults why).0 e, bad why e)) (λ p. ((x.net_passes.0 p, bytes), good p))
 
   module _ (b : List ℕ) (small : Bytes b) where
-    pub of-state : ((why : Fault) → examine_state net b ≡ examined.Unfit why → refused why) → (Passes (examine_state net b) → done)
+    pub of-state : ((why : Fault) → examine_state net b ≡ Err why → refused why) → (Passes (examine_state net b) → done)
         → OfState net b refused done
     of-state bad good =
         let x = examines net b [] in
@@ -69,7 +67,7 @@ module _ {refused : Fault → Type 0} {done : Type 0} (net : List ℕ) (bytes : 
         let (n, s) = x.state_passes.0 p in
         (record { is_net = n; is_state = s; net-bytes = bytes; state-bytes = small }, good p))
 
-    of-log : (log : List ℕ) → Bytes log → ((why : Fault) → examine_log net b log ≡ examined.Unfit why → refused why)
+    of-log : (log : List ℕ) → Bytes log → ((why : Fault) → examine_log net b log ≡ Err why → refused why)
         → (Passes (examine_log net b log) → Passes (examine_state net b) → done) → OfLog net b log refused done
     of-log log few bad good =
         let x = examines net b log in
@@ -93,7 +91,17 @@ state-accepted : (net b : List ℕ) → Passes (examine_state net b) → state_t
 unfolding state_told
 state-accepted net b (s, e) = rw e
 
-module _ (net : List ℕ) (bytes : Bytes net) where
+-- a slice holds bytes, as its type says
+abbrev Lent : List ℕ → Type 0
+Lent s = (i : ℕ) → Fits w8 (slice_index s i)
+
+pub bytes_of : (s : List ℕ) → Lent s → Bytes s
+bytes_of s lent i = omega (arith, lent i)
+
+module _ (net : List ℕ) (lent : Lent net) where
+  bytes : Bytes net
+  bytes = bytes_of net lent
+
   pub check-net-promised : Adds (CheckNetPromise net) (net_told net)
   check-net-promised =
       adds (CheckNetPromise net) (net_told net) (of-net net bytes (told_fault net []).check-net (net-accepted net))
@@ -103,7 +111,10 @@ module _ (net : List ℕ) (bytes : Bytes net) where
       adds-two (InitialPromise net b) (initial_told net b) (initial_left net b)
       (of-net net bytes (told_fault net b).initial (initial-given net b bytes))
 
-  module _ (b : List ℕ) (small : Bytes b) where
+  module _ (b : List ℕ) (lent' : Lent b) where
+    small : Bytes b
+    small = bytes_of b lent'
+
     pub check-state-promised : Adds (CheckStatePromise net b) (state_told net b)
     check-state-promised =
         adds (CheckStatePromise net b) (state_told net b) (of-state net bytes b small (told_fault net b).check-state (state-accepted net b))
@@ -131,7 +142,10 @@ module _ (net : List ℕ) (bytes : Bytes net) where
           (of-state net bytes b small (λ why e. (told_fault net b).back why e first second started)
           (λ p. (demand_3 net b small p).event_by_event first second started))
 
-    module _ (log : List ℕ) (few : Bytes log) (started : Bool) where
+    module _ (log : List ℕ) (lent'' : Lent log) (started : Bool) where
+      few : Bytes log
+      few = bytes_of log lent''
+
       pub run-promised : AddsTwo (RunPromise net b log started) (run_told net b log started) (run_left net b log started)
       run-promised =
           adds-two (RunPromise net b log started) (run_told net b log started) (run_left net b log started)
@@ -142,12 +156,12 @@ module _ (net : List ℕ) (bytes : Bytes net) where
           adds-two (WalkPromise net b log n started) (walk_told net b log n started) (walk_left net b log n started)
           (of-log net bytes b small log few (λ why e. (told_fault net b).walk log why e n started) (λ p q. (demand_3 net b small q).log_by_log log p n started))
 
-module _ (log : List ℕ) (bytes : Bytes log) (k : ℕ) where
+module _ (log : List ℕ) (lent : Lent log) (k : ℕ) where
   by-check : (c : Checked) → check_log log ≡ c → StepPromise log k (step_told log k)
-  by-check checked.Good good = Promise.in_form ((log-exact log).0 good, bytes) ((steps_of log good).each k)
-  by-check (checked.Bad why) bad =
+  by-check (Ok tt) good = Promise.in_form ((log-exact log).0 good, bytes_of log lent) ((steps_of log good).each k)
+  by-check (Err why) bad =
       let one = log-only log why bad in
-      Promise.at_fault why (sym one, (log-faulty log).0 (bad ∙ ap checked.Bad (sym one))) ((told_fault [] []).step log why bad k)
+      Promise.at_fault why (sym one, (log-faulty log).0 (bad ∙ ap Err (sym one))) ((told_fault [] []).step log why bad k)
 
   pub step-promised : Adds (StepPromise log k) (step_told log k)
   step-promised = adds (StepPromise log k) (step_told log k) (by-check (check_log log) refl)

@@ -1,20 +1,17 @@
 -- What a call tells: document 01's number and index, and what belongs to it, which is 0 where the call is refused; but 13 tells a place
 -- and its shortage.
 -- Assumes nothing.
-use Rattle.std.specs.Prelude.{cond, ℕ, ◌+◌, ◌-◌, ltb}
-use Rattle.model.specs.declared.answer.Answer.{Answer}
+use Rattle.std.specs.Prelude.{cond, ℕ, ◌+◌, ◌-◌, ltb, Option, Some, None}
+use Rattle.std.specs.declared.ops.Range.{Range}
 use Rattle.model.specs.declared.answer.Refusal.TheVariants as refusal
-use Rattle.model.specs.Answer.{nothing_short, number_of as number_of_answer, short_of, number_of_refusal, number_of_standing}
+use Rattle.model.specs.Answer.{Answer, nothing_short, number_of as number_of_answer, short_of, number_of_refusal, number_of_standing}
 use Rattle.model.specs.Net.{Net, State}
 use Rattle.model.specs.Rules.{degree}
 use Rattle.forms.specs.declared.fault.Fault.{Fault}
-use Rattle.forms.specs.declared.fault.Checked.{Checked}
-use Rattle.forms.specs.Checked.{number_of, index_of, number_of_fault, index_of_fault}
+use Rattle.forms.specs.Checked.{Checked, number_of, index_of, number_of_fault, index_of_fault}
 use Rattle.forms.specs.Places.{event_at}
 use Rattle.owed.specs.declared.report.Owed.{Owed}
 use Rattle.owed.specs.Reported.{set_of}
-use Rattle.logs.specs.declared.steps.Span.{Span}
-use Rattle.logs.specs.declared.steps.Span.TheVariants as span
 use Rattle.engine.specs.declared.answers.Verdict.{Verdict}
 use Rattle.engine.specs.declared.answers.EventTold.{EventTold}
 use Rattle.engine.specs.declared.answers.DegreeTold.{DegreeTold}
@@ -79,6 +76,6 @@ abbrev pub tells_step : ℕ → ℕ → ℕ → StepTold
 tells_step number start length = record { number = number; index = 0; start = start; length = length }
 
 -- where it stands in the log, whose events follow its fifth byte; 23 where there is no such step
-abbrev pub step_of : Span → StepTold
-step_of (span.Part from to) = tells_step 0 (event_at 0 + from) (to - from)
-step_of span.Nothing = tells_step 23 0 0
+abbrev pub step_of : Option (Range ℕ) → StepTold
+step_of (Some span) = tells_step 0 (event_at 0 + span.start) (span.end - span.start)
+step_of None = tells_step 23 0 0

@@ -1,12 +1,10 @@
 -- What each call tells and leaves, for any bytes.
 -- Assumes nothing.
-use Rattle.std.specs.Prelude.{◌≡◌, Bool, List, ℕ, ◌+◌, take, drop}
+use Rattle.std.specs.Prelude.{◌≡◌, Bool, List, ℕ, ◌+◌, take, drop, Ok, Err}
 use Rattle.std.specs.Borrow.{Bor}
 use Rattle.model.specs.Event.{event_of}
 use Rattle.model.specs.Rules.{answer_of}
-use Rattle.forms.specs.declared.fault.Checked.{Checked}
-use Rattle.forms.specs.declared.fault.Checked.TheVariants as checked
-use Rattle.forms.specs.Checked.{number_of_fault}
+use Rattle.forms.specs.Checked.{Checked, number_of_fault}
 use Rattle.forms.specs.Stored.{net_of, stored}
 use Rattle.forms.specs.Nets.{check_net}
 use Rattle.forms.specs.Logs.{check_log}
@@ -88,8 +86,8 @@ walk_left net state log n started = if_fit (examine_log net state log) (left net
 
 -- 10, and then 23
 abbrev pub step_by : Checked → StepTold → StepTold
-step_by checked.Good told = told
-step_by (checked.Bad why) told = tells_step (number_of_fault why) 0 0
+step_by (Ok tt) told = told
+step_by (Err why) told = tells_step (number_of_fault why) 0 0
 
 unfoldable pub step_told : List ℕ → ℕ → StepTold
 step_told log k = step_by (check_log log) (step_of (span_of (events_part log) k))

@@ -3,7 +3,7 @@
 -- what it tells, and b' what it leaves of the buffer b: the contracts in src/calls.rt promise it of the very answer and buffer. `started` is the
 -- fact that the caller gives (request W5): a start has happened before the event, or before the log's first, in its step.
 -- Assumes nothing.
-use Rattle.std.specs.Prelude.{◌≡◌, Bool, false, ◌↔◌, List, ◌++◌, ℕ, suc, ◌+◌, ◌-◌, ◌<◌, ◌≤◌, length, take}
+use Rattle.std.specs.Prelude.{◌≡◌, Bool, false, ◌↔◌, List, ◌++◌, ℕ, suc, ◌+◌, ◌-◌, ◌<◌, ◌≤◌, length, take, Ok, Err}
 use Rattle.model.specs.declared.net.Net.{Net as Shape}
 use Rattle.model.specs.declared.answer.Short.{Short}
 use Rattle.model.specs.declared.answer.Refusal.{Refusal}
@@ -19,7 +19,6 @@ use Rattle.model.specs.Run.{started_after, started_before, started_before_last}
 use Rattle.model.specs.Owed.{OwesStart, OwesEnd, HowMany, word_bits, Lowest, Stands}
 use Rattle.model.specs.Demands.{SomeLeads, NoStateBefore}
 use Rattle.forms.specs.declared.fault.Fault.{Fault}
-use Rattle.forms.specs.declared.fault.Checked.TheVariants as checked
 use Rattle.forms.specs.Checked.{number_of_fault, index_of_fault}
 use Rattle.forms.specs.Word.{Bytes, byte}
 use Rattle.forms.specs.Places.{image_length}
@@ -34,16 +33,14 @@ use Rattle.engine.specs.declared.answers.Verdict.{Verdict}
 use Rattle.engine.specs.declared.answers.EventTold.{EventTold}
 use Rattle.engine.specs.declared.answers.DegreeTold.{DegreeTold}
 use Rattle.engine.specs.declared.answers.OwedTold.{OwedTold}
-use Rattle.engine.specs.declared.examine.Examined.{Examined}
-use Rattle.engine.specs.declared.examine.Examined.TheVariants as examined
-use Rattle.engine.specs.Examined.{examine_net, examine_state, examine_log}
+use Rattle.engine.specs.Examined.{Examined, examine_net, examine_state, examine_log}
 use Rattle.engine.specs.Said.{says, no_place, says_event, says_run, says_walk, says_degree, set_says, says_owed, says_step}
 use Rattle.engine.specs.Calls.{net_told, state_told, initial_told, initial_left, event_told, event_left, back_told, back_left}
 use Rattle.engine.specs.Calls.{degree_told, owed_told, run_told, run_left, walk_told, walk_left, step_told}
 
 -- what a call was given got past its checks
 abbrev pub Passes : Examined → Type 0
-Passes e = (shape : Shape) × (e ≡ examined.Fit shape)
+Passes e = (shape : Shape) × (e ≡ Ok shape)
 
 -- what is told of a run and of a walk, and a state, as the model's account of it
 abbrev pub account_of_run : RunTold → State → RunAccount
@@ -247,21 +244,21 @@ pub record ToldPasses (net b : List ℕ) : Type 0 where
 -- and what did not: a call that is refused before its first event tells the fault's number and index, and 0 in all else, and leaves
 -- every byte
 pub record ToldFault (net b : List ℕ) : Type 0 where
-  pub check-net : (why : Fault) → examine_net net ≡ examined.Unfit why → net_told net ≡ says (number_of_fault why) (index_of_fault why)
-  pub check-state : (why : Fault) → examine_state net b ≡ examined.Unfit why → state_told net b ≡ says (number_of_fault why) (index_of_fault why)
-  pub initial : (why : Fault) → examine_net net ≡ examined.Unfit why
+  pub check-net : (why : Fault) → examine_net net ≡ Err why → net_told net ≡ says (number_of_fault why) (index_of_fault why)
+  pub check-state : (why : Fault) → examine_state net b ≡ Err why → state_told net b ≡ says (number_of_fault why) (index_of_fault why)
+  pub initial : (why : Fault) → examine_net net ≡ Err why
       → (initial_told net b ≡ says (number_of_fault why) (index_of_fault why)) × (initial_left net b ≡ b)
-  pub event : (why : Fault) → examine_state net b ≡ examined.Unfit why → (first second : ℕ) (started : Bool)
+  pub event : (why : Fault) → examine_state net b ≡ Err why → (first second : ℕ) (started : Bool)
       → (event_told net b first second started ≡ says_event (number_of_fault why) (index_of_fault why) no_place) × (event_left net b first second started ≡ b)
-  pub back : (why : Fault) → examine_state net b ≡ examined.Unfit why → (first second : ℕ) (started : Bool)
+  pub back : (why : Fault) → examine_state net b ≡ Err why → (first second : ℕ) (started : Bool)
       → (back_told net b first second started ≡ says (number_of_fault why) (index_of_fault why)) × (back_left net b first second started ≡ b)
-  pub degree : (why : Fault) → examine_state net b ≡ examined.Unfit why → (t : ℕ)
+  pub degree : (why : Fault) → examine_state net b ≡ Err why → (t : ℕ)
       → degree_told net b t ≡ says_degree (number_of_fault why) (index_of_fault why) 0
-  pub owed : (why : Fault) → examine_state net b ≡ examined.Unfit why
+  pub owed : (why : Fault) → examine_state net b ≡ Err why
       → owed_told net b ≡ says_owed (number_of_fault why) (index_of_fault why) (set_says 0 0 0) (set_says 0 0 0) 0
-  pub run : (log : List ℕ) (why : Fault) → examine_log net b log ≡ examined.Unfit why → (started : Bool)
+  pub run : (log : List ℕ) (why : Fault) → examine_log net b log ≡ Err why → (started : Bool)
       → (run_told net b log started ≡ says_run (number_of_fault why) (index_of_fault why) 0 0 no_place false) × (run_left net b log started ≡ b)
-  pub walk : (log : List ℕ) (why : Fault) → examine_log net b log ≡ examined.Unfit why → (n : ℕ) (started : Bool)
+  pub walk : (log : List ℕ) (why : Fault) → examine_log net b log ≡ Err why → (n : ℕ) (started : Bool)
       → (walk_told net b log n started ≡ says_walk (number_of_fault why) (index_of_fault why) 0 0) × (walk_left net b log n started ≡ b)
-  pub step : (log : List ℕ) (why : Fault) → check_log log ≡ checked.Bad why → (k : ℕ)
+  pub step : (log : List ℕ) (why : Fault) → check_log log ≡ Err why → (k : ℕ)
       → step_told log k ≡ says_step (number_of_fault why) 0 0 0

@@ -2,11 +2,10 @@
 -- the file that it is taken from. `Bytes` is discharged by the calls: each promises its part of this of the very slices that it was lent,
 -- and that they are bytes (Promised.antt, the last clause of each contract in src/calls.rt).
 -- Assumes nothing.
-use Rattle.std.specs.Prelude.{◌≡◌, ◌↔◌, List, ℕ}
+use Rattle.std.specs.Prelude.{◌≡◌, ◌↔◌, List, ℕ, Ok}
 use Rattle.std.specs.Borrow.{Bor}
 use Rattle.model.specs.Net.{Net}
 use Rattle.model.specs.Order.{StepOrder}
-use Rattle.forms.specs.declared.fault.Checked.TheVariants as checked
 use Rattle.forms.specs.Word.{Bytes}
 use Rattle.forms.specs.Logs.{IsLog, check_log}
 use Rattle.forms.specs.AsListed.{AsListed}
@@ -31,7 +30,7 @@ pub record OnBytes : Type 0 where
   pub step_order : (N : Net) → StepOrder N
   -- the initial state, and the steps of a log
   pub initial : (net b : List ℕ) → Bytes net → Passes (examine_net net) → InitialGiven net b (initial_told net b) (initial_left net b)
-  pub log_good : (log : List ℕ) → (check_log log ≡ checked.Good) ↔ IsLog log
-  pub steps : (log : List ℕ) → check_log log ≡ checked.Good → StepsOf log
+  pub log_good : (log : List ℕ) → (check_log log ≡ Ok tt) ↔ IsLog log
+  pub steps : (log : List ℕ) → check_log log ≡ Ok tt → StepsOf log
   -- the part that `step` gives, of which its contract says `PartOf`
   pub parts : (log part : Bor (List ℕ)) (k : ℕ) → PartOf log part (step_told log.now k) → PartGiven log part k

@@ -3,8 +3,10 @@
 ghost use Rattle.std.specs.Prelude.{◌≡◌};
 ghost use Rattle.engine.specs.Answers.{verdict_of, unfit, answered, event_unfit, event_answered, no_degree, owed_of, no_report, tells_step};
 
-use forms::fault::{Checked, Fault};
-use model::answer::{Answer, Short};
+use forms::fault;
+use forms::fault::Fault;
+use model::answer;
+use model::answer::{Refusal, Short};
 use owed::report::{Owed, OwedSet};
 
 // Document 01's number, and the transition for 4, 5, 6 and 9.
@@ -49,102 +51,105 @@ pub struct StepTold {
     pub length: usize,
 }
 
-impl Verdict {
-    // Of a check.
-    pub fn of(checked: Checked) -> Verdict
-        ensures { result ≡ verdict_of checked }
-    {
+// Of a check.
+impl From<Result<(), Fault>> for Verdict {
+    ghost from_gives = { λ checked told. told ≡ verdict_of checked };
+
+    fn from(checked: Result<(), Fault>) -> Verdict {
         Verdict {
-            number: checked.number(),
-            index: checked.index(),
+            number: fault::number_of(checked),
+            index: fault::index_of(checked),
         }
     }
+}
 
-    // Of what a call was given.
-    pub fn unfit(fault: Fault) -> Verdict
-        ensures { result ≡ unfit fault }
-    {
+// Of what a call was given.
+impl From<Fault> for Verdict {
+    ghost from_gives = { λ fault told. told ≡ unfit fault };
+
+    fn from(fault: Fault) -> Verdict {
         Verdict {
-            number: fault.number(),
+            number: fault.into(),
             index: fault.index(),
         }
     }
+}
 
-    // Of a single event taken back: its index is always 0.
-    pub fn answered(answer: Answer) -> Verdict
-        ensures { result ≡ answered answer }
-    {
+// Of a single event taken back: its index is always 0.
+impl From<Result<(), Refusal>> for Verdict {
+    ghost from_gives = { λ answer told. told ≡ answered answer };
+
+    fn from(answer: Result<(), Refusal>) -> Verdict {
         Verdict {
-            number: answer.number(),
+            number: answer::number_of(answer),
             index: 0,
         }
     }
 }
 
-impl EventTold {
-    pub fn unfit(fault: Fault) -> EventTold
-        ensures { result ≡ event_unfit fault }
-    {
+impl From<Fault> for EventTold {
+    ghost from_gives = { λ fault told. told ≡ event_unfit fault };
+
+    fn from(fault: Fault) -> EventTold {
         EventTold {
-            number: fault.number(),
+            number: fault.into(),
             index: fault.index(),
             short: Short::nothing(),
         }
     }
+}
 
-    // Of a single event: its index is always 0.
-    pub fn answered(answer: Answer) -> EventTold
-        ensures { result ≡ event_answered answer }
-    {
-        let number = answer.number();
-        let short = answer.short();
+// Of a single event: its index is always 0.
+impl From<Result<(), Refusal>> for EventTold {
+    ghost from_gives = { λ answer told. told ≡ event_answered answer };
+
+    fn from(answer: Result<(), Refusal>) -> EventTold {
         EventTold {
-            number: number,
+            number: answer::number_of(answer),
             index: 0,
-            short: short,
+            short: answer::short_of(answer),
         }
     }
 }
 
-impl DegreeTold {
-    pub fn unfit(fault: Fault) -> DegreeTold
-        ensures { result ≡ no_degree fault }
-    {
+impl From<Fault> for DegreeTold {
+    ghost from_gives = { λ fault told. told ≡ no_degree fault };
+
+    fn from(fault: Fault) -> DegreeTold {
         DegreeTold {
-            number: fault.number(),
+            number: fault.into(),
             index: fault.index(),
             degree: 0,
         }
     }
 }
 
-impl OwedTold {
-    // Of a report.
-    pub fn of(owed: Owed) -> OwedTold
-        ensures { result ≡ owed_of owed }
-    {
-        let starts = owed.starts;
-        let ends = owed.ends;
-        let standing = owed.standing;
+// Of a report.
+impl From<Owed> for OwedTold {
+    ghost from_gives = { λ owed told. told ≡ owed_of owed };
+
+    fn from(owed: Owed) -> OwedTold {
         OwedTold {
             number: 0,
             index: 0,
-            starts: starts,
-            ends: ends,
-            standing: standing.number(),
+            starts: owed.starts,
+            ends: owed.ends,
+            standing: owed.standing.into(),
         }
     }
+}
 
-    pub fn unfit(fault: Fault) -> OwedTold
-        ensures { result ≡ no_report fault }
-    {
+impl From<Fault> for OwedTold {
+    ghost from_gives = { λ fault told. told ≡ no_report fault };
+
+    fn from(fault: Fault) -> OwedTold {
         let none = OwedSet {
             word: 0,
             count: 0,
             lowest: 0,
         };
         OwedTold {
-            number: fault.number(),
+            number: fault.into(),
             index: fault.index(),
             starts: none,
             ends: none,
@@ -158,7 +163,7 @@ impl StepTold {
         ensures { result ≡ tells_step number 0 0 }
     {
         StepTold {
-            number: number,
+            number,
             index: 0,
             start: 0,
             length: 0,

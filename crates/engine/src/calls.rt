@@ -10,12 +10,11 @@ ghost use Rattle.engine.specs.Promised.{DegreePromise, OwedPromise, RunPromise, 
 
 use crate::answers::{DegreeTold, EventTold, OwedTold, StepTold, Verdict};
 use crate::examine;
-use crate::examine::Examined;
-use forms::fault::Checked;
+use forms::checked::CheckedNet;
 use forms::{initial, log, net, places};
 use logs::steps;
-use logs::steps::Span;
 use model::answer::Refusal;
+use model::event::Pair;
 use moves::event;
 use moves::order::Step;
 use owed::{degree, report};
@@ -30,7 +29,7 @@ pub fn check_net(net: &[u8]) -> Verdict
     ensures value { result ≡ net_told net.now }
     ensures check_net_promise { CheckNetPromise net.now result }
 {
-    Verdict::of(net::check_net(net))
+    net::check_net(net).into()
 }
 
 // Checks a state of a net: 1 to 6, 8, 9.
@@ -39,11 +38,11 @@ pub fn check_state(net: &[u8], state: &[u8]) -> Verdict
     ensures check_state_promise { CheckStatePromise net.now state.now result }
 {
     match examine::examine_state(net, state) {
-        Examined::Fit(_) => Verdict {
+        Ok(_) => Verdict {
             number: 0,
             index: 0,
         },
-        Examined::Unfit(fault) => Verdict::unfit(fault),
+        Err(fault) => fault.into(),
     }
 }
 
@@ -53,9 +52,9 @@ pub fn initial(net: &[u8], state: &mut [u8]) -> Verdict
     ensures state_after { state.new ≡ initial_left net.now state.old }
     ensures initial_promise { InitialPromise net.now state.old result state.new }
 {
-    match examine::examine_net(net) {
-        Examined::Fit(shape) => Verdict::of(initial::initial(net, shape, state)),
-        Examined::Unfit(fault) => Verdict::unfit(fault),
+    match CheckedNet::of(net) {
+        Ok(net) => initial::initial(net, state).into(),
+        Err(fault) => fault.into(),
     }
 }
 
@@ -66,15 +65,11 @@ pub fn event(net: &[u8], state: &mut [u8], first: u8, second: u8, started: bool)
     ensures event_promise { EventPromise net.now state.old first second started result state.new }
 {
     match examine::examine_state(net, state) {
-        Examined::Fit(shape) => EventTold::answered(event::apply(
-            net,
-            shape,
-            state,
-            Step::given(started),
-            first,
-            second,
-        )),
-        Examined::Unfit(fault) => EventTold::unfit(fault),
+        Ok(net) => {
+            let pair = Pair { first, second };
+            event::apply(net.bytes, net.shape, state, Step::given(started), pair).into()
+        }
+        Err(fault) => fault.into(),
     }
 }
 
@@ -85,15 +80,11 @@ pub fn back(net: &[u8], state: &mut [u8], first: u8, second: u8, started: bool) 
     ensures back_promise { BackPromise net.now state.old first second started result state.new }
 {
     match examine::examine_state(net, state) {
-        Examined::Fit(shape) => Verdict::answered(event::back(
-            net,
-            shape,
-            state,
-            Step::given(started),
-            first,
-            second,
-        )),
-        Examined::Unfit(fault) => Verdict::unfit(fault),
+        Ok(net) => {
+            let pair = Pair { first, second };
+            event::back(net.bytes, net.shape, state, Step::given(started), pair).into()
+        }
+        Err(fault) => fault.into(),
     }
 }
 
@@ -103,21 +94,17 @@ pub fn degree(net: &[u8], state: &[u8], t: usize) -> DegreeTold
     ensures degree_promise { DegreePromise net.now state.now t result }
 {
     match examine::examine_state(net, state) {
-        Examined::Fit(shape) => {
-            if shape.transitions <= t {
-                return DegreeTold {
-                    number: Refusal::NoSuchTransition.number(),
-                    index: 0,
-                    degree: 0,
-                };
-            }
-            DegreeTold {
-                number: 0,
-                index: 0,
-                degree: degree::degree(net, shape, state, t),
-            }
-        }
-        Examined::Unfit(fault) => DegreeTold::unfit(fault),
+        Ok(net) if net.shape.transitions <= t => DegreeTold {
+            number: Refusal::NoSuchTransition.into(),
+            index: 0,
+            degree: 0,
+        },
+        Ok(net) => DegreeTold {
+            number: 0,
+            index: 0,
+            degree: degree::degree(net.bytes, net.shape, state, t),
+        },
+        Err(fault) => fault.into(),
     }
 }
 
@@ -127,8 +114,8 @@ pub fn owed(net: &[u8], state: &[u8]) -> OwedTold
     ensures owed_promise { OwedPromise net.now state.now result }
 {
     match examine::examine_state(net, state) {
-        Examined::Fit(shape) => OwedTold::of(report::report(net, shape, state)),
-        Examined::Unfit(fault) => OwedTold::unfit(fault),
+        Ok(net) => report::report(net.bytes, net.shape, state).into(),
+        Err(fault) => fault.into(),
     }
 }
 
@@ -140,8 +127,14 @@ pub fn run(net: &[u8], state: &mut [u8], log: &[u8], started: bool) -> RunTold
     ensures run_promise { RunPromise net.now state.old log.now started result state.new }
 {
     match examine::examine_log(net, state, log) {
-        Examined::Fit(shape) => run::run(net, shape, state, &log[places::EVENTS_AT..], started),
-        Examined::Unfit(fault) => RunTold::unfit(fault),
+        Ok(net) => run::run(
+            net.bytes,
+            net.shape,
+            state,
+            &log[places::EVENTS_AT..],
+            started,
+        ),
+        Err(fault) => fault.into(),
     }
 }
 
@@ -153,15 +146,15 @@ pub fn walk(net: &[u8], state: &mut [u8], log: &[u8], n: usize, started: bool) -
     ensures walk_promise { WalkPromise net.now state.old log.now n started result state.new }
 {
     match examine::examine_log(net, state, log) {
-        Examined::Fit(shape) => walk::walk(
-            net,
-            shape,
+        Ok(net) => walk::walk(
+            net.bytes,
+            net.shape,
             state,
             &log[places::EVENTS_AT..],
             n,
             started,
         ),
-        Examined::Unfit(fault) => WalkTold::unfit(fault),
+        Err(fault) => fault.into(),
     }
 }
 
@@ -170,18 +163,17 @@ pub fn step_told(log: &[u8], k: usize) -> StepTold
     ensures value { result ≡ step_told log.now k }
     ensures step_promise { StepPromise log.now k result }
 {
-    let checked = log::check_log(log);
-    let Checked::Good = checked else {
-        return StepTold::refused(checked.number());
-    };
+    if let Err(fault) = log::check_log(log) {
+        return StepTold::refused(fault.into());
+    }
     match steps::span_of(&log[places::EVENTS_AT..], k) {
-        Span::Part(from, to) => StepTold {
+        Some(span) => StepTold {
             number: 0,
             index: 0,
-            start: places::EVENTS_AT + from,
-            length: to - from,
+            start: places::EVENTS_AT + span.start,
+            length: span.end - span.start,
         },
-        Span::Nothing => StepTold::refused(NO_SUCH_STEP),
+        None => StepTold::refused(NO_SUCH_STEP),
     }
 }
 

@@ -1,58 +1,31 @@
 -- `calls::run` meets its contract: behind net, state and log, the events behind the fifth byte.
-use mathlib.Core.Path.{refl, sym, ◌∙◌}
-use native.Mathlib.Omega.{arith}
-use Rattle.forms.specs.Logs.{IsLog}
-use Rattle.forms.specs.Frame.{Framed}
+use Rattle.std.proofs.Common.{refl}
 use Rattle.logs.proofs.PairLaws.{rest}
 use Rattle.engine.specs.Calls.{run_told, run_left}
-use Rattle.engine.proofs.Fits.{log-fits}
-use Rattle.forms.specs.Word.{Bytes}
+use Rattle.engine.proofs.Fits.{log-found}
 use Rattle.engine.proofs.Promised.{run-promised}
 use Rattle.engine.proofs.calls.run.Goals as goal
 
 pub slice_bounds-run-count : goal.slice_bounds-run-count
-slice_bounds-run-count c =
-    let fits : Framed c.args.net.now c.in-Fit.shape c.args.state.now
-    × IsLog c.args.log.now =
-    log-fits _ _ _ _ (sym c.examine_log.ensures ∙ c.in-Fit.is) in
-    omega (arith, fits.1.least)
+slice_bounds-run-count c = (log-found _ c.in-Ok.net _ _ c.in-Ok.ensures).1.least
 
 pub slice_bounds-run-start : goal.slice_bounds-run-start
-slice_bounds-run-start c =
-    let fits : Framed c.args.net.now c.in-Fit.shape c.args.state.now
-    × IsLog c.args.log.now =
-    log-fits _ _ _ _ (sym c.examine_log.ensures ∙ c.in-Fit.is) in
-    omega (arith, fits.1.least)
+slice_bounds-run-start c = (log-found _ c.in-Ok.net _ _ c.in-Ok.ensures).1.least
 
 pub run-requires : goal.run-requires
-run-requires c =
-    let fits : Framed c.args.net.now c.in-Fit.shape c.args.state.now
-    × IsLog c.args.log.now =
-    log-fits _ _ _ _ (sym c.examine_log.ensures ∙ c.in-Fit.is) in
-    fits.0
+run-requires c = (log-found _ c.in-Ok.net _ _ c.in-Ok.ensures).0
 
-pub returns-in-Fit : goal.returns-in-Fit
+pub returns-in-Ok : goal.returns-in-Ok
 unfolding run_told run_left
-returns-in-Fit c =
-    let bytes : Bytes c.args.net.now =
-    λ i. omega (arith, c.shared_slice_known-1.given i) in
-    let small : Bytes c.args.state.now =
-    λ i. omega (arith, c.slice_known-1.given i) in
-    let few : Bytes c.args.log.now =
-    λ i. omega (arith, c.shared_slice_known-2-1.given i) in
-    let both = run-promised _ bytes _ small _ few _ _ _
-    (rw (sym c.examine_log.ensures ∙ c.in-Fit.is, ← rest) (c.run.ensures.value, c.run.ensures.state_after)) in
+returns-in-Ok c =
+    let found = c.in-Ok.ensures in
+    let did = rw (found.1, rest) at c.run.ensures in
+    let both = run-promised _ c.type_inv.net _ c.slice_known-1.given _ c.type_inv.log _ _ _ (rw found.0 (did.value, did.state_after)) in
     record { value = both.0; state_after = both.1.0; run_promise = both.1.1 }
 
-pub returns-in-Unfit : goal.returns-in-Unfit
+pub returns-in-Err : goal.returns-in-Err
 unfolding run_told run_left
-returns-in-Unfit c =
-    let bytes : Bytes c.args.net.now =
-    λ i. omega (arith, c.shared_slice_known-1.given i) in
-    let small : Bytes c.args.state.now =
-    λ i. omega (arith, c.slice_known-1.given i) in
-    let few : Bytes c.args.log.now =
-    λ i. omega (arith, c.shared_slice_known-2-1.given i) in
-    let both = run-promised _ bytes _ small _ few _ _ _
-    (rw (sym c.examine_log.ensures ∙ c.in-Unfit.is) (c.unfit.ensures, refl)) in
+returns-in-Err c =
+    let found = c.in-Err.ensures in
+    let both = run-promised _ c.type_inv.net _ c.slice_known-1.given _ c.type_inv.log _ _ _ (rw found (c.into.ensures, refl)) in
     record { value = both.0; state_after = both.1.0; run_promise = both.1.1 }
