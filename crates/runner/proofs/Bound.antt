@@ -6,6 +6,7 @@ use mathlib.Core.Bool.{false}
 use Prim.Native.Nat.{ℕ, zero, suc, ◌+◌, ◌*◌, ◌<◌}
 use native.Mathlib.Nat.{add-mul, one-mul}
 use native.Mathlib.Omega.{arith}
+use Rattle.std.proofs.Common.{Some, None}
 use Rattle.model.specs.declared.event.Event.{Event}
 use Rattle.model.specs.declared.event.Event.TheVariants as event
 use Rattle.model.specs.declared.answer.Refusal.{Refusal}
@@ -22,7 +23,7 @@ use Rattle.model.proofs.Refusals.{apply-refuses}
 use Rattle.runner.specs.declared.stop.Stop.{Stop}
 use Rattle.runner.specs.declared.stop.Stop.TheVariants as stop
 use Rattle.runner.specs.Stop.{number_of_stop, stop_for}
-use Rattle.runner.specs.Choice.{Chooses, Choice, rest, next, Picks, choice}
+use Rattle.runner.specs.Choice.{Chooses, Choice, Picks, choice}
 use Rattle.runner.specs.Page.{Page, halted, behind, chosen, page}
 use Rattle.runner.specs.Bound.{due, owed_ends, tokens_after, all_tokens_after, bound, NoneInstant, Soon}
 use Rattle.runner.proofs.Choice.{choice-picks}
@@ -144,5 +145,5 @@ module _ (N : Net) (proper : Proper N) (long : NoneInstant N) where
           → Soon
           (chosen c (halted stop.AtRest S)
           (λ e. by (apply N false S e) (λ S₁. behind e (page N S₁ room budget)) (λ why. halted (stop_for e) S))) (bound N S)
-      go more rest a = halts stop.AtRest S (bound N S) (λ e. omega arith) (λ e. omega arith)
-      go more (next e) c = onward e more c (apply N false S e) refl
+      go more None a = halts stop.AtRest S (bound N S) (λ e. omega arith) (λ e. omega arith)
+      go more (Some e) c = onward e more c (apply N false S e) refl

@@ -7,6 +7,7 @@ use Prim.Native.Nat.{ℕ, zero, suc, ◌<◌, ◌≤◌}
 use native.Mathlib.Nat.{not-suc-le-zero, zero-add}
 use native.Mathlib.Omega.{arith}
 use lib.ListN.{length}
+use Rattle.std.proofs.Common.{Some}
 use Rattle.model.specs.declared.event.Event.{Event}
 use Rattle.model.specs.declared.event.Event.TheVariants as event
 use Rattle.model.specs.Tab.{tab, all, largest, lowest, sum, one}
@@ -17,7 +18,7 @@ use Rattle.model.specs.Owed.{does_owe_start, does_owe_end}
 use Rattle.model.specs.Cases.{childrens_row, slow_middle}
 use Rattle.model.proofs.Tab.{below_suc}
 use Rattle.runner.specs.declared.stop.Stop.TheVariants as stop
-use Rattle.runner.specs.Choice.{next, choice, end_at_lfd}
+use Rattle.runner.specs.Choice.{choice, end_at_lfd}
 use Rattle.runner.specs.Page.{Page, page}
 use Rattle.runner.specs.Bound.{owed_ends, all_tokens_after, Soon}
 use Rattle.runner.specs.Cases.{RowPages, two_owed, LowestPages, spin, NeverTicks}
@@ -81,7 +82,7 @@ begins : initial_state spin ≡ resting
 unfolding tab largest width build initial_state spin resting
 begins = refl
 
-chooses-start : choice spin resting ≡ next (event.Start 0)
+chooses-start : choice spin resting ≡ Some (event.Start 0)
 unfolding tab all largest lowest width tokens count lacking_place is_enabled has_no_start_owed has_no_end_owed has_nothing_running does_owe_start does_owe_end spin choice resting
 chooses-start = refl
 
@@ -89,7 +90,7 @@ does-start : apply spin false resting (event.Start 0) ≡ done spinning
 unfolding tab all largest lowest one width tokens count build lacking_place is_enabled owes_no_old_end has_no_old_end_owed started apply spin resting spinning
 does-start = refl
 
-chooses-end : choice spin spinning ≡ next (end_at_lfd spin 0)
+chooses-end : choice spin spinning ≡ Some (end_at_lfd spin 0)
 unfolding tab all largest lowest width tokens count lacking_place is_enabled has_no_start_owed has_no_end_owed has_nothing_running does_owe_start does_owe_end spin choice spinning
 chooses-end = refl
 

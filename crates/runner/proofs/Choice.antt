@@ -3,6 +3,7 @@
 use mathlib.Core.Path.{◌≡◌, refl, sym, ap}
 use mathlib.Core.Logic.{◌↔◌}
 use Prim.Native.Nat.{ℕ, ◌<◌}
+use Rattle.std.proofs.Common.{Some, None}
 use Rattle.model.specs.declared.event.Event.{Event}
 use Rattle.model.specs.declared.event.Event.TheVariants as event
 use Rattle.model.specs.Net.{Net, State}
@@ -12,7 +13,7 @@ use Rattle.model.proofs.Tab.{below-or-past, at-or-below}
 use Rattle.model.proofs.Tests.{no-start-owed-tells, no-end-owed-tells, nothing-running-tells, decide, told-true, told-false}
 use Rattle.model.proofs.Lowest.{lowest-is}
 use Rattle.model.proofs.Owed.{owes-start-tells, owes-end-tells, no-start-owed-is, no-end-owed-is}
-use Rattle.runner.specs.Choice.{end_at_lfd, LowestOf, Chooses, AtRest, Choice, rest, next, Picks, choice}
+use Rattle.runner.specs.Choice.{end_at_lfd, LowestOf, Chooses, AtRest, Choice, Picks, choice}
 
 -- the lowest of a set that is not empty is one of the set
 pub found : {A : ℕ → Type 0} {n none l : ℕ} → Lowest A n none l → ¬ ((i : ℕ) → i < n → ¬ A i) → LowestOf A l
@@ -67,10 +68,10 @@ module _ (N : Net) (S : State) where
   rest-chooses (none, none', still) (Chooses.tick _ _ runs) = absurd (runs still)
 
   picks-once : (c d : Choice) → Picks N S c → Picks N S d → c ≡ d
-  picks-once rest rest a b = refl
-  picks-once rest (next e) a b = rest-chooses a b
-  picks-once (next e) rest a b = rest-chooses b a
-  picks-once (next e) (next f) a b = ap next (chooses-once a b)
+  picks-once None None a b = refl
+  picks-once None (Some e) a b = rest-chooses a b
+  picks-once (Some e) None a b = rest-chooses b a
+  picks-once (Some e) (Some f) a b = ap Some (chooses-once a b)
 
   -- the choice that is computed is the only right one
   pub choice-exact : (c : Choice) → (choice N S ≡ c) ↔ Picks N S c

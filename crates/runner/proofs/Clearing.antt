@@ -1,21 +1,22 @@
 -- What is known of a state before it is looked at: nothing at first, and behind each event what the event leaves.
 -- Assumes nothing.
-use mathlib.Core.Path.{◌≡◌}
+use mathlib.Core.Path.{◌≡◌, refl, sym, ap}
 use mathlib.Core.Bool.{false}
-use Prim.Native.Nat.{ℕ, ◌+◌, ◌<◌, ◌≤◌}
+use Prim.Native.Nat.{ℕ, ◌<◌, ◌≤◌}
 use native.Mathlib.Omega.{arith}
+use Rattle.std.proofs.Common.{Option, Some, None, MatchOption}
 use Rattle.model.specs.declared.event.Event.{Event}
 use Rattle.model.specs.Net.{Net, State, Lawful, count}
 use Rattle.model.specs.Moves.{Enabled, Starts, Ends, Moves}
-use Rattle.model.specs.Owed.{Lowest}
 use Rattle.model.proofs.Tab.{below-or-past, at-or-below, one-off}
 use Rattle.model.proofs.Shape.{lfd-fits}
 use Rattle.moves.proofs.Calm.{still-calm, still-runs}
+use Rattle.runner.specs.declared.clear.Clear.{Clear}
 use Rattle.runner.specs.Choice.{LowestOf, Chooses}
-use Rattle.runner.specs.Chosen.{From, clear_of, IsClear, clear_after}
+use Rattle.runner.specs.Chosen.{LowestFrom, IsClear, clear_after}
 
-pub clear_first : (N : Net) (S : State) → 0 < N.transitions → IsClear N S (clear_of 0 0)
-clear_first N S some = record {
+pub clear_first : (N : Net) (S : State) (c : Clear) → 0 < N.transitions → (c.ends ≡ 0) × (c.starts ≡ 0) → IsClear N S c
+clear_first N S c some (ends, starts) = record {
   ends_known = omega arith;
   starts_known = omega arith;
   no_end = λ t h. absurd (omega arith);
@@ -61,25 +62,29 @@ module _ (N : Net) (S : State) (lawful : Lawful N S) (S₁ : State) where
 
 -- A LOOK FROM THERE ON
 
-module _ {A : ℕ → Type 0} (from : ℕ) where
-  -- a turn passes one of which A does not hold
-  pub pass-turn : (t : ℕ) → ((u : ℕ) → from ≤ u → u < t → ¬ A u) → ¬ A t → (u : ℕ) → from ≤ u → u < t + 1 → ¬ A u
-  pass-turn t passed not u l h = at-or-below u t (omega arith) (λ e. rw e not) (λ k. passed u l k)
+-- what `find` over a range gives, where the test tells of each number below n whether A holds of it
+pub lowest_from : {A Yes No : ℕ → Type 0} {n m : ℕ} (from : ℕ) (r : Option ℕ) → m ≡ n → ((t : ℕ) → t < n → Yes t → A t) → ((t : ℕ) → No t → ¬ A t)
+    → MatchOption r ((k : ℕ) → from ≤ k → k < m → No k) (λ t. (from ≤ t) × (t < m) × Yes t × ((k : ℕ) → from ≤ k → k < t → No k))
+    → LowestFrom A from n r
+lowest_from from None e holds fails none = LowestFrom.empty (λ k l h. fails k (none k l (omega arith)))
+lowest_from {n = n} from (Some t) e holds fails (l, h, y, lower) = let b : t < n = omega arith in LowestFrom.found l b (holds t b y) (λ k m g. fails k (lower k m g))
 
-  pub pass-found : (n t : ℕ) → ((u : ℕ) → from ≤ u → u < t → ¬ A u) → from ≤ t → t < n → A t → Lowest (From from A) n n t
-  pass-found n t passed l h a = Lowest.found h (l, a) (λ u k (l', x). passed u l' k x)
-
-  pub pass-none : (n t : ℕ) → ((u : ℕ) → from ≤ u → u < t → ¬ A u) → n ≤ t → Lowest (From from A) n n n
-  pass-none n t passed h = Lowest.empty (λ u k (l, x). passed u l (omega arith) x)
-
-module _ {A : ℕ → Type 0} {n from : ℕ} (below : (t : ℕ) → t < from → ¬ A t) where
+module _ {A : ℕ → Type 0} {from : ℕ} (below : (t : ℕ) → t < from → ¬ A t) where
   -- one is found, and it is the lowest of all
-  pub found-lowest : (r : ℕ) → Lowest (From from A) n n r → r < n → LowestOf A r
-  found-lowest r (Lowest.found b (l, a) lower) h =
-      (a, λ u k x. below-or-past u from (λ q. below u q x) (λ q. lower u k (q, x)))
-  found-lowest r (Lowest.empty none) h = absurd (omega arith)
+  pub found-lowest : {n t : ℕ} → LowestFrom A from n (Some t) → LowestOf A t
+  found-lowest (LowestFrom.found l h a lower) = (a, λ u k x. below-or-past u from (λ q. below u q x) (λ q. lower u q k x))
 
   -- none is
-  pub none_found : (r : ℕ) → Lowest (From from A) n n r → n ≤ r → (t : ℕ) → t < n → ¬ A t
-  none_found r (Lowest.found b a lower) h = λ t l x. absurd (omega arith)
-  none_found r (Lowest.empty none) h = λ t l x. below-or-past t from (λ q. below t q x) (λ q. none t l (q, x))
+  pub none_found : {n : ℕ} → LowestFrom A from n None → (t : ℕ) → t < n → ¬ A t
+  none_found (LowestFrom.empty none) t l x = below-or-past t from (λ q. below t q x) (λ q. none t q l x)
+
+pub known-from : {A : ℕ → Type 0} {from n t : ℕ} → LowestFrom A from n (Some t) → t < n
+known-from (LowestFrom.found l h a lower) = h
+
+-- and there is one answer
+pub from-once : {A : ℕ → Type 0} {from n : ℕ} {r r' : Option ℕ} → LowestFrom A from n r → LowestFrom A from n r' → r ≡ r'
+from-once (LowestFrom.found {t} l h a lower) (LowestFrom.found {t = u} l' h' a' lower') =
+    ap Some (below-or-past t u (λ k. absurd (lower' t l k a)) (λ k. at-or-below u t k sym (λ g. absurd (lower u l' g a'))))
+from-once (LowestFrom.found {t} l h a lower) (LowestFrom.empty none) = absurd (none t l h a)
+from-once (LowestFrom.empty none) (LowestFrom.found {t} l h a lower) = absurd (none t l h a)
+from-once (LowestFrom.empty none) (LowestFrom.empty none') = refl

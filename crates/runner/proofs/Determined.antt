@@ -2,14 +2,14 @@
 -- are equal, and so are two lists that it permits a lent buffer to hold at exit.
 -- Assumes nothing.
 use mathlib.Core.Path.{sym, ◌∙◌}
-use Rattle.model.proofs.Lowest.{lowest-once}
 use Rattle.model.proofs.Determined.{Determined, LeavesOne}
-use Rattle.runner.proofs.stop.Stop.number.Reads as stop-number
-use Rattle.runner.proofs.stop.Stop.number.Kinds as stop-number-kinds
+use Rattle.runner.proofs.Clearing.{from-once}
+use Rattle.runner.proofs.stop.U8FromStop.from.Reads as stop-number
+use Rattle.runner.proofs.stop.U8FromStop.from.Kinds as stop-number-kinds
 use Rattle.runner.proofs.stop.Stop.refused.Reads as stop-refused
 use Rattle.runner.proofs.stop.Stop.refused.Kinds as stop-refused-kinds
-use Rattle.runner.proofs.clear.Clear.nothing.Reads as clear-nothing
-use Rattle.runner.proofs.clear.Clear.nothing.Kinds as clear-nothing-kinds
+use Rattle.runner.proofs.clear.ClearDefault.default.Reads as clear-nothing
+use Rattle.runner.proofs.clear.ClearDefault.default.Kinds as clear-nothing-kinds
 use Rattle.runner.proofs.clear.Clear.after.Reads as clear-after
 use Rattle.runner.proofs.clear.Clear.after.Kinds as clear-after-kinds
 use Rattle.runner.proofs.choose.next_end.Reads as next-end
@@ -26,10 +26,10 @@ use Rattle.runner.proofs.log.write_head.Reads as write-head
 use Rattle.runner.proofs.log.write_head.Kinds as write-head-kinds
 use Rattle.runner.proofs.build.build.Reads as build
 use Rattle.runner.proofs.build.build.Kinds as build-kinds
-use Rattle.runner.proofs.call.PageTold.of.Reads as told_of
-use Rattle.runner.proofs.call.PageTold.of.Kinds as told-of-kinds
-use Rattle.runner.proofs.call.PageTold.unfit.Reads as told-unfit
-use Rattle.runner.proofs.call.PageTold.unfit.Kinds as told-unfit-kinds
+use Rattle.runner.proofs.call.PageToldFromTally.from.Reads as told_of
+use Rattle.runner.proofs.call.PageToldFromTally.from.Kinds as told-of-kinds
+use Rattle.runner.proofs.call.PageToldFromFault.from.Reads as told-unfit
+use Rattle.runner.proofs.call.PageToldFromFault.from.Kinds as told-unfit-kinds
 use Rattle.runner.proofs.call.page.Reads as call
 use Rattle.runner.proofs.call.page.Kinds as call-kinds
 
@@ -40,16 +40,16 @@ pub stop-refused-determined : Determined 0 stop-refused-kinds.ps stop-refused-ki
 stop-refused-determined κs args x y s s' p q = p ∙ sym q
 
 pub clear-nothing-determined : Determined 0 clear-nothing-kinds.ps clear-nothing-kinds.r clear-nothing.Learnt
-clear-nothing-determined κs args x y s s' p q = p ∙ sym q
+clear-nothing-determined κs args x y s s' p q = λ i. record { ends = (p.0 ∙ sym q.0) i; starts = (p.1 ∙ sym q.1) i }
 
 pub clear-after-determined : Determined 0 clear-after-kinds.ps clear-after-kinds.r clear-after.Learnt
 clear-after-determined κs args x y s s' p q = p ∙ sym q
 
 pub next-end-determined : Determined 2 next-end-kinds.ps next-end-kinds.r next-end.Learnt
-next-end-determined κs args x y s s' p q = lowest-once p q
+next-end-determined κs args x y s s' p q = from-once p q
 
 pub next-start-determined : Determined 2 next-start-kinds.ps next-start-kinds.r next_start.Learnt
-next-start-determined κs args x y s s' p q = lowest-once p q
+next-start-determined κs args x y s s' p q = from-once p q
 
 pub choose-determined : Determined 2 choose-kinds.ps choose-kinds.r choose.Learnt
 choose-determined κs args x y s s' p q = p ∙ sym q

@@ -1,5 +1,6 @@
 -- Two calls, the second from where the first stopped by its budget, are together one call with both budgets.
 -- Assumes nothing.
+use Rattle.std.proofs.Common.{Ok}
 use mathlib.Core.Path.{◌≡◌, sym, ap, ap₂, ◌∙◌}
 use mathlib.Core.List.{List, ◌++◌}
 use Prim.Native.Nat.{ℕ, ◌+◌, ◌≤◌}
@@ -11,7 +12,6 @@ use Rattle.forms.specs.Word.{Bytes}
 use Rattle.forms.specs.Stored.{net_of, stored, log_events}
 use Rattle.forms.specs.Written.{written}
 use Rattle.forms.proofs.Written.{written_twice}
-use Rattle.engine.specs.declared.examine.Examined.TheVariants as examined
 use Rattle.engine.specs.Demands.{LeavesState}
 use Rattle.runner.specs.declared.stop.Stop.TheVariants as stop
 use Rattle.runner.specs.Stop.{number_of_stop}
@@ -26,13 +26,13 @@ use Rattle.runner.proofs.Given.{state-fit, still-page}
 use Rattle.runner.proofs.Built.{proper, told_is, events-told, read, reached}
 
 -- the state that the first call leaves, and the second's buffer, pass the checks
-passes-again : (net : List ℕ) (s : Shape) (b log₁ log₂ : List ℕ) (a : ℕ) → Bytes net → Bytes b → examine_page net b log₁ ≡ examined.Fit s
-    → 5 ≤ length log₂ → examine_page net (state_left net b log₁ a) log₂ ≡ examined.Fit s
+passes-again : (net : List ℕ) (s : Shape) (b log₁ log₂ : List ℕ) (a : ℕ) → Bytes net → Bytes b → examine_page net b log₁ ≡ Ok s
+    → 5 ≤ length log₂ → examine_page net (state_left net b log₁ a) log₂ ≡ Ok s
 passes-again net s b log₁ log₂ a small small' fit long₂ =
     still-page net s (state_left net b log₁ a) log₂ ((reached net s b log₁ fit a small small').passes ∙ state-fit net s b log₁ fit) long₂
 
 module _ (net : List ℕ) (s : Shape) (b log₁ log₂ log : List ℕ) (a c : ℕ) (small : Bytes net) (small' : Bytes b)
-    (fit : examine_page net b log₁ ≡ examined.Fit s) (long₂ : 5 ≤ length log₂) (long : 5 ≤ length log)
+    (fit : examine_page net b log₁ ≡ Ok s) (long₂ : 5 ≤ length log₂) (long : 5 ≤ length log)
     (spent : (page_in net b log₁ a).stop ≡ stop.BudgetSpent)
     (room : RoomFor a (page_in net (state_left net b log₁ a) log₂ c) (room_of (length log₂)) (room_of (length log))) where
   -- THE THREE CALLS
@@ -40,10 +40,10 @@ module _ (net : List ℕ) (s : Shape) (b log₁ log₂ log : List ℕ) (a c : �
   left : LeavesState net b (state_left net b log₁ a) (page_in net b log₁ a).state
   left = reached net s b log₁ fit a small small'
 
-  again : examine_page net (state_left net b log₁ a) log₂ ≡ examined.Fit s
+  again : examine_page net (state_left net b log₁ a) log₂ ≡ Ok s
   again = passes-again net s b log₁ log₂ a small small' fit long₂
 
-  whole : examine_page net b log ≡ examined.Fit s
+  whole : examine_page net b log ≡ Ok s
   whole = still-page net s b log (state-fit net s b log₁ fit) long
 
   count : length (page_in net b log₁ a).events ≡ a

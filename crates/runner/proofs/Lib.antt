@@ -1,5 +1,6 @@
 pub mod Choice
 pub mod Clearing
+pub mod Chosen
 pub mod Stops
 pub mod Pages
 pub mod Bound

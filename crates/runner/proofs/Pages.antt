@@ -7,6 +7,7 @@ use mathlib.Core.List.{List, [], ◌∷◌, ◌++◌}
 use Prim.Native.Nat.{ℕ, zero, suc, ◌+◌, ◌-◌, ◌<◌, ◌≤◌}
 use native.Mathlib.Omega.{arith}
 use lib.ListN.{length, length-append}
+use Rattle.std.proofs.Common.{Some, None}
 use Rattle.model.specs.declared.event.Event.{Event}
 use Rattle.model.specs.declared.answer.Standing.TheVariants as standing
 use Rattle.model.specs.Answer.{number_of_standing}
@@ -24,7 +25,7 @@ use Rattle.model.proofs.Owed.{standing-exact}
 use Rattle.runner.specs.declared.stop.Stop.{Stop}
 use Rattle.runner.specs.declared.stop.Stop.TheVariants as stop
 use Rattle.runner.specs.Stop.{number_of_stop, stop_for}
-use Rattle.runner.specs.Choice.{Chooses, AtRest, Choice, rest, next, Picks, choice}
+use Rattle.runner.specs.Choice.{Chooses, AtRest, Choice, Picks, choice}
 use Rattle.runner.specs.Demands.{RoomForBoth, RoomFor}
 use Rattle.runner.specs.Page.{Page, Builds, Says, Stops, IsPage, halted, behind, joined, chosen, page}
 use Rattle.runner.proofs.Choice.{choice-picks, chooses-once}
@@ -58,13 +59,13 @@ module _ (N : Net) (proper : Proper N) where
   page-right room zero S = go (choice N S) (choice-picks N S)
     where
       go : (c : Choice) → Picks N S c → IsPage N S room zero (chosen c (halted stop.AtRest S) (λ e. halted stop.BudgetSpent S))
-      go rest a = halted-right N S room 0 stop.AtRest (stops-rest N S room 0 a)
-      go (next e) c = halted-right N S room 0 stop.BudgetSpent (stops-budget N S room 0 e c refl)
+      go None a = halted-right N S room 0 stop.AtRest (stops-rest N S room 0 a)
+      go (Some e) c = halted-right N S room 0 stop.BudgetSpent (stops-budget N S room 0 e c refl)
   page-right zero (suc budget) S = go (choice N S) (choice-picks N S)
     where
       go : (c : Choice) → Picks N S c → IsPage N S zero (suc budget) (chosen c (halted stop.AtRest S) (λ e. halted stop.LogFull S))
-      go rest a = halted-right N S 0 (suc budget) stop.AtRest (stops-rest N S 0 (suc budget) a)
-      go (next e) c = halted-right N S 0 (suc budget) stop.LogFull (stops-full N S 0 (suc budget) e c (omega arith) refl)
+      go None a = halted-right N S 0 (suc budget) stop.AtRest (stops-rest N S 0 (suc budget) a)
+      go (Some e) c = halted-right N S 0 (suc budget) stop.LogFull (stops-full N S 0 (suc budget) e c (omega arith) refl)
   page-right (suc room) (suc budget) S = go (λ S₁. page-right room budget S₁) (choice N S) (choice-picks N S)
     where
       onward : ((S₁ : State) → IsPage N S₁ room budget (page N S₁ room budget)) → (e : Event) → Chooses N S e → (o : Outcome) → apply N false S e ≡ o
@@ -78,8 +79,8 @@ module _ (N : Net) (proper : Proper N) where
           → IsPage N S (suc room) (suc budget)
           (chosen c (halted stop.AtRest S)
           (λ e. by (apply N false S e) (λ S₁. behind e (page N S₁ room budget)) (λ why. halted (stop_for e) S)))
-      go more rest a = halted-right N S (suc room) (suc budget) stop.AtRest (stops-rest N S (suc room) (suc budget) a)
-      go more (next e) c = onward more e c (apply N false S e) refl
+      go more None a = halted-right N S (suc room) (suc budget) stop.AtRest (stops-rest N S (suc room) (suc budget) a)
+      go more (Some e) c = onward more e c (apply N false S e) refl
 
 -- AND NO OTHER
 

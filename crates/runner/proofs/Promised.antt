@@ -1,14 +1,13 @@
 -- The call's promise of the bytes that it was lent, from what its contract says it tells and leaves.
 -- Assumes nothing.
+use Rattle.std.proofs.Common.{Ok, Err}
 use mathlib.Core.Path.{◌≡◌, refl, subst, ◌∙◌}
 use mathlib.Core.List.{List, []}
 use Prim.Native.Nat.{ℕ}
 use Rattle.forms.specs.declared.fault.Fault.{Fault}
 use Rattle.forms.specs.Word.{Bytes}
 use Rattle.forms.specs.Checked.{number_of_fault, index_of_fault}
-use Rattle.engine.specs.declared.examine.Examined.{Examined}
-use Rattle.engine.specs.declared.examine.Examined.TheVariants as examined
-use Rattle.engine.specs.Examined.{then_check, examine_state}
+use Rattle.engine.specs.Examined.{Examined, then_check, examine_state}
 use Rattle.engine.proofs.Fits.{bad-then}
 use Rattle.engine.proofs.Faults.{examines}
 use Rattle.engine.proofs.Promised.{by_cases}
@@ -20,18 +19,18 @@ use Rattle.runner.proofs.Built.{built}
 
 module _ (net b log : List ℕ) where
   -- which fault it is
-  faults : (why : Fault) → examine_page net b log ≡ examined.Unfit why → PageUnfit net b log why
+  faults : (why : Fault) → examine_page net b log ≡ Err why → PageUnfit net b log why
   unfolding examine_page
   faults why e = go (examine_state net b) refl e
     where
-      go : (x : Examined) → examine_state net b ≡ x → then_check x (check_buffer log) ≡ examined.Unfit why → PageUnfit net b log why
-      go (examined.Unfit w) is e = PageUnfit.before (((examines net b []).state_faults why).0 (is ∙ e))
-      go (examined.Fit s) is e =
+      go : (x : Examined) → examine_state net b ≡ x → then_check x (check_buffer log) ≡ Err why → PageUnfit net b log why
+      go (Err w) is e = PageUnfit.before (((examines net b []).state_faults why).0 (is ∙ e))
+      go (Ok s) is e =
           let (n, st) = (examines net b []).state_passes.0 (s, is) in
           let (q, short) = buffer-lacks log why (bad-then (check_buffer log) s e) in
           subst (PageUnfit net b log) q (PageUnfit.no_head n st short)
 
-  module _ (why : Fault) (e : examine_page net b log ≡ examined.Unfit why) (budget : ℕ) where
+  module _ (why : Fault) (e : examine_page net b log ≡ Err why) (budget : ℕ) where
     refused : (page_told net b log budget ≡ says_page (number_of_fault why) (index_of_fault why) 0 0 0)
         × (state_left net b log budget ≡ b) × (log_left net b log budget ≡ log)
     unfolding page_told state_left log_left

@@ -1,16 +1,13 @@
 -- What the runner's call tells and leaves, for any bytes.
 -- Assumes nothing.
-use Rattle.std.specs.Prelude.{List, ℕ, leb, length}
+use Rattle.std.specs.Prelude.{List, ℕ, leb, length, Ok}
 use Rattle.forms.specs.declared.fault.Fault.{Fault}
 use Rattle.forms.specs.declared.fault.Fault.TheVariants as fault
-use Rattle.forms.specs.declared.fault.Checked.{Checked}
-use Rattle.forms.specs.declared.fault.Checked.TheVariants as checked
-use Rattle.forms.specs.Checked.{number_of_fault, index_of_fault, unless}
+use Rattle.forms.specs.Checked.{Checked, number_of_fault, index_of_fault, unless}
 use Rattle.forms.specs.Places.{event_at}
 use Rattle.forms.specs.Stored.{net_of}
 use Rattle.forms.specs.Written.{written}
-use Rattle.engine.specs.declared.examine.Examined.{Examined}
-use Rattle.engine.specs.Examined.{then_check, examine_state, if_fit}
+use Rattle.engine.specs.Examined.{Examined, then_check, examine_state, if_fit}
 use Rattle.runner.specs.declared.call.PageTold.{PageTold}
 use Rattle.runner.specs.declared.build.Tally.{Tally}
 use Rattle.runner.specs.Stop.{number_of_stop}
@@ -18,7 +15,7 @@ use Rattle.runner.specs.Logged.{tally_of, page_in, logged_over}
 
 -- 10: a buffer that has no room for the head of a log
 abbrev pub check_buffer : List ℕ → Checked
-check_buffer log = unless (leb (event_at 0) (length log)) fault.LogFrame checked.Good
+check_buffer log = unless (leb (event_at 0) (length log)) fault.LogFrame (Ok tt)
 
 -- 1 to 6, 8, 9, and then 10
 unfoldable pub examine_page : List ℕ → List ℕ → List ℕ → Examined

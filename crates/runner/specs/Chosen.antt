@@ -1,20 +1,13 @@
 -- The choice as the code tells it, and what it knows of a state before it looks.
 -- Assumes nothing.
-use Rattle.std.specs.Prelude.{◌≡◌, Bool, true, false, ℕ, ◌<◌, ◌≤◌}
+use Rattle.std.specs.Prelude.{Option, Some, None, ◌≡◌, Bool, true, false, ℕ, ◌<◌, ◌≤◌}
 use Rattle.model.specs.declared.event.Event.{Event}
 use Rattle.model.specs.declared.event.Event.TheVariants as event
 use Rattle.model.specs.Net.{Net, State}
 use Rattle.model.specs.Rules.{has_no_start_owed, has_no_end_owed, has_nothing_running}
 use Rattle.model.specs.Moves.{NothingRunning}
 use Rattle.model.specs.Owed.{OwesStart, OwesEnd}
-use Rattle.runner.specs.declared.choose.Next.{Next}
-use Rattle.runner.specs.declared.choose.Next.TheVariants as out
 use Rattle.runner.specs.declared.clear.Clear.{Clear}
-use Rattle.runner.specs.Choice.{Choice, rest, next}
-
-abbrev pub next_of : Choice → Next
-next_of rest = out.Rest
-next_of (next e) = out.Chosen e
 
 abbrev pub is_tick : Event → Bool
 is_tick event.Tick = true
@@ -32,9 +25,10 @@ is_start event.Malformed = false
 abbrev pub FreeToTick : Net → State → Type 0
 FreeToTick N S = (has_no_start_owed N S ≡ true) × (has_no_end_owed N S ≡ true) × (has_nothing_running N S ≡ false)
 
--- A holds of t, which is not below `from`
-abbrev pub From : ℕ → (ℕ → Type 0) → ℕ → Type 0
-From from A t = (from ≤ t) × A t
+-- r is the lowest number from `from` on, and below n, of which A holds, if there is one
+pub data LowestFrom (A : ℕ → Type 0) (from n : ℕ) : Option ℕ → Type 0 where
+  found : {t : ℕ} → from ≤ t → t < n → A t → ((k : ℕ) → from ≤ k → k < t → ¬ A k) → LowestFrom A from n (Some t)
+  empty : ((k : ℕ) → from ≤ k → k < n → ¬ A k) → LowestFrom A from n None
 
 abbrev pub clear_of : ℕ → ℕ → Clear
 clear_of ends starts = record { ends = ends; starts = starts }

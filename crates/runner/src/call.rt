@@ -1,13 +1,14 @@
 // The runner's call. It asks nothing of its caller: net, state and the log's buffer are examined first, in this order, and the first fault
 // is told. A refused call writes nothing.
 ghost use Rattle.std.specs.Prelude.{◌≡◌};
+ghost use Rattle.engine.specs.Examined.{Finds};
 ghost use Rattle.runner.specs.Call.{examine_page, page_of, no_page, page_told, state_left, log_left};
 ghost use Rattle.runner.specs.Promised.{PagePromise};
 
 use crate::build;
 use crate::build::Tally;
 use engine::examine;
-use engine::examine::Examined;
+use forms::checked::CheckedNet;
 use forms::fault::Fault;
 use forms::places;
 
@@ -22,25 +23,26 @@ pub struct PageTold {
     pub ticks: usize,
 }
 
-impl PageTold {
-    pub fn of(tally: Tally) -> PageTold
-        ensures { result ≡ page_of tally }
-    {
-        let stop = tally.stop;
+impl From<Tally> for PageTold {
+    ghost from_gives = { λ tally told. told ≡ page_of tally };
+
+    fn from(tally: Tally) -> PageTold {
         PageTold {
             number: 0,
             index: 0,
-            stop: stop.number(),
+            stop: tally.stop.into(),
             events: tally.events,
             ticks: tally.ticks,
         }
     }
+}
 
-    pub fn unfit(fault: Fault) -> PageTold
-        ensures { result ≡ no_page fault }
-    {
+impl From<Fault> for PageTold {
+    ghost from_gives = { λ fault told. told ≡ no_page fault };
+
+    fn from(fault: Fault) -> PageTold {
         PageTold {
-            number: fault.number(),
+            number: fault.into(),
             index: fault.index(),
             stop: 0,
             events: 0,
@@ -50,17 +52,15 @@ impl PageTold {
 }
 
 // A net, a state of it, and a buffer for a log: 1 to 6, 8, 9, and 10 for a buffer under 5 bytes.
-fn examine_page(net: &[u8], state: &[u8], log: &[u8]) -> Examined
-    ensures { result ≡ examine_page net.now state.now log.now }
+#[tactic(auto, unfolding(crate::specs::Call::examine_page))]
+fn examine_page<'a>(net: &'a [u8], state: &[u8], log: &[u8]) -> Result<CheckedNet<'a>, Fault>
+    ensures { Finds net.entry (examine_page net.now state.now log.now) result }
 {
-    let examined = examine::examine_state(net, state);
-    let Examined::Fit(_) = examined else {
-        return examined;
-    };
+    let net = examine::examine_state(net, state)?;
     if log.len() < places::EVENTS_AT {
-        return Examined::Unfit(Fault::LogFrame);
+        return Err(Fault::LogFrame);
     }
-    examined
+    Ok(net)
 }
 
 // Builds a page by the net from the state, with at most `budget` events, and writes its log at the front of the buffer.
@@ -71,7 +71,7 @@ pub fn page(net: &[u8], state: &mut [u8], log: &mut [u8], budget: usize) -> Page
     ensures page_promise { PagePromise net.now state.old log.old budget result state.new log.new }
 {
     match examine_page(net, state, log) {
-        Examined::Fit(shape) => PageTold::of(build::build(net, shape, state, log, budget)),
-        Examined::Unfit(fault) => PageTold::unfit(fault),
+        Ok(net) => build::build(net.bytes, net.shape, state, log, budget).into(),
+        Err(fault) => fault.into(),
     }
 }

@@ -4,7 +4,7 @@ ghost use Rattle.model.specs.Owed.{Lowest, OwesStart, OwesEnd};
 ghost use Rattle.forms.specs.Stored.{net_of, stored};
 ghost use Rattle.forms.specs.Frame.{Framed};
 ghost use Rattle.runner.specs.Choice.{choice};
-ghost use Rattle.runner.specs.Chosen.{next_of, From, IsClear};
+ghost use Rattle.runner.specs.Chosen.{LowestFrom, IsClear};
 
 use crate::clear::Clear;
 use forms::net;
@@ -13,67 +13,43 @@ use model::event::Event;
 use model::net::Net;
 use owed::{counts, starts};
 
-#[derive(Clone, Copy)]
-pub enum Next {
-    Rest,
-    Chosen(Event),
-}
-
 // An owed end before an owed start before a tick, the lowest transition of each, found from where nothing below it is owed. The starts are
 // looked for only where no end is owed, and the clock only where no start is; behind a tick neither is looked at.
-pub fn choose(net: &[u8], shape: Net, state: &[u8], clear: Clear) -> Next
+pub fn choose(net: &[u8], shape: Net, state: &[u8], clear: Clear) -> Option<Event>
     requires framed { Framed net.now shape state.now }
     requires clear { IsClear (net_of net.now) (stored net.now state.now) clear }
-    ensures { result ≡ next_of (choice (net_of net.now) (stored net.now state.now)) }
+    ensures { result ≡ choice (net_of net.now) (stored net.now state.now) }
 {
-    let due = next_end(net, shape, state, clear.ends);
-    if due < shape.transitions {
-        let lfd = Age(net::lfd(net, due) as u8);
-        return Next::Chosen(Event::End(due, lfd));
+    if let Some(t) = next_end(net, shape, state, clear.ends) {
+        let lfd = Age(net::lfd(net, t) as u8);
+        return Some(Event::End(t, lfd));
     }
     if clear.starts == shape.transitions {
-        return Next::Chosen(Event::Tick);
+        return Some(Event::Tick);
     }
-    let enabled = next_start(net, shape, state, clear.starts);
-    if enabled < shape.transitions {
-        return Next::Chosen(Event::Start(enabled));
+    if let Some(t) = next_start(net, shape, state, clear.starts) {
+        return Some(Event::Start(t));
     }
     if counts::nothing_running(net, shape, state) {
-        return Next::Rest;
+        return None;
     }
-    Next::Chosen(Event::Tick)
+    Some(Event::Tick)
 }
 
-// The lowest transition from `from` on that owes an end, or the number of transitions where there is none.
-pub fn next_end(net: &[u8], shape: Net, state: &[u8], from: usize) -> usize
+// The lowest transition from `from` on that owes an end.
+pub fn next_end(net: &[u8], shape: Net, state: &[u8], from: usize) -> Option<usize>
     requires framed { Framed net.now shape state.now }
     requires from_le_transitions { from ≤ shape.transitions }
-    ensures { Lowest (From from (OwesEnd (net_of net.now) (stored net.now state.now))) (net_of net.now).transitions (net_of net.now).transitions result }
+    ensures { LowestFrom (OwesEnd (net_of net.now) (stored net.now state.now)) from (net_of net.now).transitions result }
 {
-    let transitions = shape.transitions;
-    let mut t = from;
-    while t < transitions {
-        if counts::due(net, shape, state, t) != 0 {
-            return t;
-        }
-        t += 1;
-    }
-    transitions
+    (from..shape.transitions).find(|t| counts::due(net, shape, state, *t) != 0)
 }
 
-// The lowest transition from `from` on that is enabled, or the number of transitions where there is none.
-pub fn next_start(net: &[u8], shape: Net, state: &[u8], from: usize) -> usize
+// The lowest transition from `from` on that is enabled.
+pub fn next_start(net: &[u8], shape: Net, state: &[u8], from: usize) -> Option<usize>
     requires framed { Framed net.now shape state.now }
     requires from_le_transitions { from ≤ shape.transitions }
-    ensures { Lowest (From from (OwesStart (net_of net.now) (stored net.now state.now))) (net_of net.now).transitions (net_of net.now).transitions result }
+    ensures { LowestFrom (OwesStart (net_of net.now) (stored net.now state.now)) from (net_of net.now).transitions result }
 {
-    let transitions = shape.transitions;
-    let mut t = from;
-    while t < transitions {
-        if starts::enabled(net, shape, state, t) {
-            return t;
-        }
-        t += 1;
-    }
-    transitions
+    (from..shape.transitions).find(|t| starts::enabled(net, shape, state, *t))
 }

@@ -16,11 +16,11 @@ pub enum Stop {
     PlaceFull,
 }
 
-impl Stop {
-    pub fn number(self) -> u8
-        ensures { result ≡ number_of_stop self }
-    {
-        match self {
+impl From<Stop> for u8 {
+    ghost from_gives = { λ stop number. number ≡ number_of_stop stop };
+
+    fn from(stop: Stop) -> u8 {
+        match stop {
             Stop::AtRest => 1,
             Stop::BudgetSpent => 2,
             Stop::LogFull => 3,
@@ -28,16 +28,16 @@ impl Stop {
             Stop::PlaceFull => 5,
         }
     }
+}
 
+impl Stop {
     // The stop where the chosen event is refused: a start meets 14 alone, an end 17 alone. Nothing else is ever refused, so any would do.
     pub fn refused(event: Event) -> Stop
         ensures { result ≡ stop_for event }
     {
         match event {
-            Event::Tick => Stop::CountFull,
-            Event::Start(_) => Stop::CountFull,
-            Event::End(_, _) => Stop::PlaceFull,
-            Event::Malformed => Stop::PlaceFull,
+            Event::Tick | Event::Start(_) => Stop::CountFull,
+            Event::End(_, _) | Event::Malformed => Stop::PlaceFull,
         }
     }
 }

@@ -1,22 +1,21 @@
--- `choose::next_end` meets its contract. The loop keeps that no transition passed owes an end.
-use Prim.Native.Nat.{◌<◌}
+-- `choose::next_end` meets its contract: it looks from `from` on for a count at its lfd.
+use Rattle.std.proofs.Common.{◌≡◌, ◌≤◌, rules}
+use Rattle.std.proofs.lemmas.Iterator.{serves_from_Range, first_from_Range}
 use native.Mathlib.Omega.{arith}
-use Rattle.forms.specs.Stored.{net_of}
+use Rattle.model.specs.Net.{count}
+use Rattle.forms.specs.Stored.{net_of, stored}
 use Rattle.forms.proofs.States.{transitions-same}
-use Rattle.runner.proofs.Clearing.{pass-found, pass-none}
+use Rattle.runner.proofs.Clearing.{lowest_from}
 use Rattle.runner.proofs.choose.next_end.Goals as goal
 
-pub due-requires : goal.due-requires
-due-requires c =
-    record { framed = c.requires.framed; t_bound = omega (arith, transitions-same c.args.net.now c.args.shape c.requires.framed.net_framed) }
-
-pub returns-then-due-ne0 : goal.returns-then-due-ne0
-returns-then-due-ne0 c =
-    let known : c.loop-t.t < (net_of c.args.net.now).transitions = omega (arith, c.requires.framed.net_framed.has_shape.transitions_are) in
-    pass-found c.args.from (net_of c.args.net.now).transitions c.loop-t.t c.loop-t.invariant.2 c.loop-t.invariant.0 known (known, omega (arith, c.due.ensures.0, c.if-due-ne0.true))
+pub find-requires-clause-callable : goal.find-requires-clause-callable
+find-requires-clause-callable c =
+    let f = c.requires.framed in
+    let same = transitions-same _ _ f.net_framed in serves_from_Range (λ x q k. search rules) (λ x low high. search rules)
 
 pub returns : goal.returns
 returns c =
-    rw c.requires.framed.net_framed.has_shape.transitions_are
-    (pass-none c.args.from (net_of c.args.net.now).transitions c.loop-t.t c.loop-t.invariant.2
-    (omega (arith, c.loop-t-test.false, c.requires.framed.net_framed.has_shape.transitions_are)))
+    let n = c.args.net.now in
+    let b = c.args.state.now in
+    lowest_from c.args.from c.find.result c.requires.framed.net_framed.has_shape.transitions_are (λ t l y. (l, y)) (λ t no o. omega (arith, no, o.1))
+    (first_from_Range _ _ _ _ (λ t. 1 ≤ count (stored n b) t ((net_of n).lfd t)) (λ t. count (stored n b) t ((net_of n).lfd t) ≡ 0) c.find.ensures.ran (λ x q k. search rules) (λ x q k. search rules))
