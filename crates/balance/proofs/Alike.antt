@@ -1,5 +1,6 @@
 -- The call answers the same of whatever events, steps back, runs, walks and pages leave.
 -- Assumes nothing.
+use Rattle.std.proofs.Common.{Ok, Err}
 use mathlib.Core.Path.{◌≡◌, refl, sym, ap, subst, ◌∙◌}
 use mathlib.Core.Bool.{Bool, false}
 use mathlib.Core.List.{List}
@@ -12,9 +13,7 @@ use Rattle.model.proofs.Alls.{not_yet}
 use Rattle.forms.specs.Word.{Bytes}
 use Rattle.forms.specs.Stored.{net_of, stored, log_events}
 use Rattle.forms.specs.Frame.{Framed}
-use Rattle.engine.specs.declared.examine.Examined.{Examined}
-use Rattle.engine.specs.declared.examine.Examined.TheVariants as examined
-use Rattle.engine.specs.Examined.{examine_state, examine_log, if_fit}
+use Rattle.engine.specs.Examined.{Examined, examine_state, examine_log, if_fit}
 use Rattle.engine.specs.Calls.{event_told, event_left, back_told, back_left, run_left, walk_told, walk_left}
 use Rattle.engine.specs.Demands.{LeavesState, account_of_walk}
 use Rattle.engine.specs.Promised.{Promise}
@@ -82,8 +81,8 @@ module _ (net b : List ℕ) (small : Bytes b) where
     e = event_of first second
 
     event-keeps : (x : Examined) → examine_state net b ≡ x → Keeps net b (event_left net b first second started)
-    event-keeps (examined.Unfit why) x = Keeps.unchanged ((told_fault net b).event why x first second started).1
-    event-keeps (examined.Fit shape) x = by (event_told net b first second started).number refl
+    event-keeps (Err why) x = Keeps.unchanged ((told_fault net b).event why x first second started).1
+    event-keeps (Ok shape) x = by (event_told net b first second started).number refl
       where
         f : Framed net shape b
         f = state-fits net shape b x
@@ -96,8 +95,8 @@ module _ (net b : List ℕ) (small : Bytes b) where
         by (suc n) z = Keeps.unchanged ((event-done net shape b f small first second started).kept (λ q. omega arith))
 
     back-keeps : (x : Examined) → examine_state net b ≡ x → Keeps net b (back_left net b first second started)
-    back-keeps (examined.Unfit why) x = Keeps.unchanged ((told_fault net b).back why x first second started).1
-    back-keeps (examined.Fit shape) x = by (back_told net b first second started).number refl
+    back-keeps (Err why) x = Keeps.unchanged ((told_fault net b).back why x first second started).1
+    back-keeps (Ok shape) x = by (back_told net b first second started).number refl
       where
         f : Framed net shape b
         f = state-fits net shape b x
@@ -111,15 +110,15 @@ module _ (net b : List ℕ) (small : Bytes b) where
 
   module _ (log : List ℕ) where
     run-keeps : (started : Bool) (x : Examined) → examine_log net b log ≡ x → Keeps net b (run_left net b log started)
-    run-keeps started (examined.Unfit why) x = Keeps.unchanged ((told_fault net b).run log why x started).1
-    run-keeps started (examined.Fit shape) x =
+    run-keeps started (Err why) x = Keeps.unchanged ((told_fault net b).run log why x started).1
+    run-keeps started (Ok shape) x =
         let (f, l) = log-fits net shape b log x in
         let (S', r, left) = (log-run net shape b f small log l started).told in
         Keeps.moved S' left (λ w even. leads-keep N w even (lawful net shape b f small) r.led)
 
     walk-keeps : (n : ℕ) (started : Bool) (x : Examined) → examine_log net b log ≡ x → Keeps net b (walk_left net b log n started)
-    walk-keeps n started (examined.Unfit why) x = Keeps.unchanged ((told_fault net b).walk log why x n started).1
-    walk-keeps n started (examined.Fit shape) x =
+    walk-keeps n started (Err why) x = Keeps.unchanged ((told_fault net b).walk log why x n started).1
+    walk-keeps n started (Ok shape) x =
         let (f, l) = log-fits net shape b log x in
         let (S₀, r, left) = (log_back net shape b f small log l started n).told in
         Keeps.moved S₀ left

@@ -9,13 +9,14 @@ use native.Mathlib.Omega.{arith}
 use lib.Dec.{eqb}
 use lib.ListN.{length}
 use borrow.Author.Tests.{eqb-true, eqb-false, lt-ltb, le-ltb, eq-eqb, ne_eqb}
+use Rattle.std.proofs.Common.{Ok, Err}
 use Rattle.model.specs.Net.{Net, State}
 use Rattle.model.specs.Owed.{Lowest}
 use Rattle.model.proofs.Tab.{below-or-past}
 use Rattle.model.proofs.Tests.{eqb_tells, not-tells}
 use Rattle.model.proofs.Lowest.{lowest-is, lowest-once}
 use Rattle.balance.specs.declared.call.BalanceTold.{BalanceTold}
-use Rattle.balance.specs.declared.weigh.Weighing.TheVariants as comes-to
+use Rattle.balance.specs.declared.weigh.Imbalance.TheVariants as imbalance
 use Rattle.balance.specs.Weights.{weight_in, weight_out, BalancedAt, Balanced, LowestUnbalanced, first_unbalanced, total}
 use Rattle.balance.specs.Told.{weight_at, balance_of, weighing, checked_weighing}
 use Rattle.balance.specs.Promised.{says_balance}
@@ -67,16 +68,16 @@ module _ (N : Net) (w : ℕ → ℕ) where
 -- WHAT WEIGHING COMES TO
 
 module _ (N : Net) (w : ℕ → ℕ) (S : State) where
-  pub is-unbalanced : first_unbalanced N w < N.transitions → weighing N w S ≡ comes-to.Unbalanced (first_unbalanced N w)
+  pub is-unbalanced : first_unbalanced N w < N.transitions → weighing N w S ≡ Err (imbalance.Unbalanced (first_unbalanced N w))
   unfolding weighing
   is-unbalanced l = rw (lt-ltb (first_unbalanced N w) N.transitions l)
 
-  pub is-total : N.transitions ≤ first_unbalanced N w → weighing N w S ≡ comes-to.Total (total N w S)
+  pub is-total : N.transitions ≤ first_unbalanced N w → weighing N w S ≡ Ok (total N w S)
   unfolding weighing
   is-total l = rw (le-ltb (first_unbalanced N w) N.transitions l)
 
 module _ (N : Net) (weights : List ℕ) (S : State) where
-  pub not-by : ¬ (length weights ≡ 2 * N.places) → checked_weighing N weights S ≡ comes-to.NoWeights
+  pub not-by : ¬ (length weights ≡ 2 * N.places) → checked_weighing N weights S ≡ Err imbalance.NoWeights
   unfolding checked_weighing
   not-by d = rw (ne_eqb (length weights) (2 * N.places) d)
 

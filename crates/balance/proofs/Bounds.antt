@@ -3,13 +3,24 @@
 use Prim.Native.Nat.{ℕ, ◌+◌, ◌*◌, ◌^◌, ◌<◌, ◌≤◌}
 use native.Mathlib.Nat.{mul-le-mul}
 use native.Mathlib.Omega.{arith}
+use Rattle.std.proofs.Common.{List, Fits, w8, slice_index}
 use Rattle.model.specs.Tab.{sum}
 use Rattle.model.specs.Limits.{place_limit, transition_limit}
 use Rattle.model.specs.Net.{Net, State, Lawful, width, tokens, count}
 use Rattle.model.proofs.Sums.{sum-le}
+use Rattle.forms.specs.Word.{byte, word}
+use Rattle.forms.proofs.WordLaws.{word_fits}
+use Rattle.engine.proofs.Promised.{bytes_of}
 use Rattle.balance.specs.Bounds.{byte_most, word_most, arc_most, tokens_most, firings_most}
 use Rattle.balance.specs.Weights.{weighed, weight_in, running, firings_weight, total}
 use Rattle.balance.specs.Demands.{Small, NoOverflow}
+
+-- what a slice of bytes holds, as its type says
+pub byte-small : (s : List ℕ) → ((i : ℕ) → Fits w8 (slice_index s i)) → (i : ℕ) → byte s i < 256
+byte-small s fits = bytes_of s fits
+
+pub word-small : (s : List ℕ) → ((i : ℕ) → Fits w8 (slice_index s i)) → (i : ℕ) → word s i < 65536
+word-small s fits i = word_fits s i (bytes_of s fits)
 
 pub word-by-byte : (a b : ℕ) → a < 65536 → b < 256 → a * b ≤ arc_most
 word-by-byte a b h l = mul-le-mul {n₂ = word_most} {m₂ = byte_most} (omega arith) (omega arith)

@@ -4,10 +4,10 @@ use mathlib.Core.Path.{sym, ◌∙◌}
 use Rattle.model.proofs.Determined.{Determined}
 use Rattle.balance.proofs.weigh.weigh.Reads as weigh
 use Rattle.balance.proofs.weigh.weigh.Kinds as weigh-kinds
-use Rattle.balance.proofs.call.BalanceTold.of.Reads as told_of
-use Rattle.balance.proofs.call.BalanceTold.of.Kinds as told-of-kinds
-use Rattle.balance.proofs.call.BalanceTold.unfit.Reads as told-unfit
-use Rattle.balance.proofs.call.BalanceTold.unfit.Kinds as told-unfit-kinds
+use Rattle.balance.proofs.call.BalanceToldFromResultU64Imbalance.from.Reads as told_of
+use Rattle.balance.proofs.call.BalanceToldFromResultU64Imbalance.from.Kinds as told-of-kinds
+use Rattle.balance.proofs.call.BalanceToldFromFault.from.Reads as told-unfit
+use Rattle.balance.proofs.call.BalanceToldFromFault.from.Kinds as told-unfit-kinds
 use Rattle.balance.proofs.call.balance.Reads as call
 use Rattle.balance.proofs.call.balance.Kinds as call-kinds
 

@@ -2,6 +2,7 @@ pub mod Cases
 pub mod Kept
 pub mod Changes
 pub mod Bounds
+pub mod Chains
 pub mod Answers
 pub mod Turns
 pub mod Alike

@@ -1,5 +1,6 @@
 -- The call's promise of the bytes that it was lent, from what its contract says it tells.
 -- Assumes nothing.
+use Rattle.std.proofs.Common.{Ok, Err}
 use mathlib.Core.Path.{◌≡◌, refl, sym, ap, ◌∙◌}
 use mathlib.Core.List.{List}
 use Prim.Native.Nat.{ℕ, ◌*◌}
@@ -13,9 +14,7 @@ use Rattle.forms.specs.Stored.{net_of, stored}
 use Rattle.forms.specs.Frame.{Framed}
 use Rattle.forms.proofs.WordLaws.{word_fits}
 use Rattle.forms.proofs.States.{places-small, transitions-small}
-use Rattle.engine.specs.declared.examine.Examined.{Examined}
-use Rattle.engine.specs.declared.examine.Examined.TheVariants as examined
-use Rattle.engine.specs.Examined.{examine_state}
+use Rattle.engine.specs.Examined.{Examined, examine_state}
 use Rattle.engine.specs.Demands.{Passes}
 use Rattle.engine.proofs.Fits.{state-fits}
 use Rattle.engine.proofs.OneEvent.{lawful}
@@ -33,12 +32,12 @@ use Rattle.balance.proofs.Turns.{narrow}
 use Rattle.balance.proofs.Alike.{used-alike}
 
 -- behind the checks
-told_is : (net b weights : List ℕ) {shape : Shape} → examine_state net b ≡ examined.Fit shape
+told_is : (net b weights : List ℕ) {shape : Shape} → examine_state net b ≡ Ok shape
     → balance_told net b weights ≡ balance_of (checked_weighing (net_of net) weights (stored net b))
 unfolding balance_told
 told_is net b weights fit = rw fit
 
-fault-is : (net b weights : List ℕ) (why : Fault) → examine_state net b ≡ examined.Unfit why
+fault-is : (net b weights : List ℕ) (why : Fault) → examine_state net b ≡ Err why
     → balance_told net b weights ≡ says_balance (number_of_fault why) (index_of_fault why) 0
 unfolding balance_told
 fault-is net b weights why e = rw e
@@ -88,9 +87,9 @@ module _ (net b weights : List ℕ) (bytes : Bytes net) (small : Bytes b) (few :
 
           -- what the calls leave of a state that was fit is fit
           go : (x : Examined) → examine_state net b' ≡ x → total (net_of net) (weight_at weights) (stored net b') ≡ (balance_told net b weights).total
-          go (examined.Unfit why) x =
+          go (Err why) x =
               fault-number why (ap (λ (r : BalanceTold). r.number) (sym (fault-is net b' weights why x) ∙ same) ∙ z)
-          go (examined.Fit s) x =
+          go (Ok s) x =
               let c = comes (net_of net) weights (stored net b') in
               let told = sym (told_is net b' weights x) ∙ same in
               ap (λ (r : BalanceTold). r.total) (sym (is-total-told c (ap (λ (r : BalanceTold). r.number) told ∙ z)) ∙ told)

@@ -8,6 +8,7 @@ use native.Mathlib.Numerals.{add-one}
 use native.Mathlib.Omega.{arith}
 use borrow.Author.Tests.{eq-eqb, ne_eqb}
 use lib.ListN.{length}
+use Rattle.std.proofs.Common.{Ok, Err}
 use Rattle.model.specs.declared.age.Column.{Column}
 use Rattle.model.specs.declared.net.Net.{Net as Shape}
 use Rattle.model.specs.Age.{column_of}
@@ -20,11 +21,11 @@ use Rattle.forms.specs.Places.{inputs_at, outputs_at, mark_at, clock_at, count_a
 use Rattle.forms.specs.Stored.{net_of, stored}
 use Rattle.forms.specs.Frame.{Framed}
 use Rattle.forms.proofs.Stored.{count_at_lem, count-place}
-use Rattle.forms.proofs.States.{places_same, width_small, counts-inside}
+use Rattle.forms.proofs.States.{places_same, transitions-same, width_small, counts-inside}
 use Rattle.forms.proofs.Inside.{known-model, mark-stands}
 use Rattle.owed.proofs.ModelTests.{lowest-found, lowest_end}
 use Rattle.balance.specs.Bounds.{byte_most, firings_most, tokens_most}
-use Rattle.balance.specs.declared.weigh.Weighing.TheVariants as comes-to
+use Rattle.balance.specs.declared.weigh.Imbalance.TheVariants as imbalance
 use Rattle.balance.specs.Weights.{weighed, weight_in, weight_out, is_unbalanced, first_unbalanced, running, firings_weight, total}
 use Rattle.balance.specs.Told.{weighing}
 use Rattle.balance.proofs.Kept.{weighed-same}
@@ -33,22 +34,9 @@ use Rattle.balance.proofs.Answers.{is-unbalanced, is-total}
 -- TURNS
 
 module _ (f : ℕ → ℕ) where
-  pub sum-begin : 0 ≡ sum 0 f
-  unfolding sum
-  sum-begin = refl
-
   pub sum-turn : (i so_far here next : ℕ) → so_far ≡ sum i f → here ≡ f i → next ≡ so_far + here → next ≡ sum (i + 1) f
   unfolding sum
   sum-turn i so_far here next e g h = rw (add-one i) (omega arith)
-
-module _ (w f : ℕ → ℕ) where
-  pub weighed-begin : 0 ≡ weighed 0 w f
-  unfolding weighed
-  weighed-begin = sum-begin (λ p. w p * f p)
-
-  pub weighed-turn : (i so_far a b : ℕ) → so_far ≡ weighed i w f → a ≡ w i → b ≡ f i → so_far + a * b ≡ weighed (i + 1) w f
-  unfolding weighed
-  weighed-turn i so_far a b e g h = sum-turn (λ p. w p * f p) i so_far (a * b) (so_far + a * b) e (rw (g, h)) refl
 
 -- WHAT THE SUMS COME TO
 
@@ -57,11 +45,15 @@ module _ (net : List ℕ) (shape : Shape) (b : List ℕ) (f : Framed net shape b
   pub narrow : shape.width ≤ byte_most
   narrow = omega (arith, width_small net shape f.net_framed)
 
-  module _ (t : ℕ) (known : t < byte net 6) (c : Column) (first : c ≡ column_of (record { 0 = 0 })) (at : ℕ)
+  -- the loop's t is a transition of the net
+  pub is_row : (t : ℕ) → t < shape.transitions → t < byte net 6
+  is_row t l = omega (arith, transitions-same net shape f.net_framed)
+
+  module _ (t : ℕ) (below : t < shape.transitions) (c : Column) (first : c ≡ column_of (record { 0 = 0 })) (at : ℕ)
       (here : at ≡ count_at shape.places shape.width t c) where
     -- the row of t stands within the state
     pub row_inside : at + 2 * shape.width ≤ length b
-    row_inside = omega (arith, counts-inside net shape f.net_framed b t 0 at c f.is_state.head known (omega arith) first here)
+    row_inside = omega (arith, counts-inside net shape f.net_framed b t 0 at c f.is_state.head (is_row t below) (omega arith) first here)
 
     -- and its counts are the firings of t
     pub running-is : sum shape.width (λ k. word b (at + 2 * k)) ≡ running (net_of net) (stored net b) t
@@ -77,7 +69,7 @@ module _ (net : List ℕ) (shape : Shape) (b : List ℕ) (f : Framed net shape b
             here ∙ rw (first, h.places_are, h.width_is) in
             let place : clock_at (net_of net).places + 2 * (t * width (net_of net) + j) ≡ at + 2 * j =
             omega (arith, count-place (net_of net).places (width (net_of net)) t 0) in
-            sym (rw place at (count_at_lem (net_of net) b t j (known-model net shape b f t known) l))
+            sym (rw place at (count_at_lem (net_of net) b t j (known-model net shape b f t (is_row t below)) l))
 
 -- the loop over the transitions: so far none is unbalanced, and so much the marking and their firings weigh
 pub record Weighs (net : List ℕ) (shape : Shape) (b : List ℕ) (w : ℕ → ℕ) (t so_far : ℕ) : Type 0 where
@@ -87,12 +79,12 @@ pub record Weighs (net : List ℕ) (shape : Shape) (b : List ℕ) (w : ℕ → �
   pub bounded : so_far ≤ shape.places * tokens_most + t * firings_most
 
 module _ (net : List ℕ) (shape : Shape) (b : List ℕ) (f : Framed net shape b) (w : ℕ → ℕ) where
-  pub arcs-in : (t from : ℕ) → from ≡ inputs_at shape.places t
+  arcs-in : (t from : ℕ) → from ≡ inputs_at shape.places t
       → weighed shape.places w (λ p. byte net (from + p)) ≡ weight_in (net_of net) w t
   unfolding net_of
   arcs-in t from e = rw (e, places_same net shape f.net_framed)
 
-  pub arcs-out : (t from : ℕ) → from ≡ outputs_at shape.places t
+  arcs-out : (t from : ℕ) → from ≡ outputs_at shape.places t
       → weighed shape.places w (λ p. byte net (from + p)) ≡ weight_out (net_of net) w t
   unfolding net_of
   arcs-out t from e = rw (e, places_same net shape f.net_framed)
@@ -119,8 +111,15 @@ module _ (net : List ℕ) (shape : Shape) (b : List ℕ) (f : Framed net shape b
   unfolding all sum
   weighs-begin marks e l = record { passed = omega arith; even = refl; weight = omega arith; bounded = omega arith }
 
-  module _ (t so_far taken given : ℕ) (is : Weighs net shape b w t so_far) (below : t < shape.transitions) (in_is : taken ≡ weight_in (net_of net) w t)
-      (out-is : given ≡ weight_out (net_of net) w t) where
+  module _ (t so_far in_at out_at taken given : ℕ) (is : Weighs net shape b w t so_far) (below : t < shape.transitions)
+      (in_here : in_at ≡ inputs_at shape.places t) (takes-in : taken ≡ weighed shape.places w (λ p. byte net (in_at + p)))
+      (out_here : out_at ≡ outputs_at shape.places t) (puts-out : given ≡ weighed shape.places w (λ p. byte net (out_at + p))) where
+    in_is : taken ≡ weight_in (net_of net) w t
+    in_is = takes-in ∙ arcs-in t in_at in_here
+
+    out-is : given ≡ weight_out (net_of net) w t
+    out-is = puts-out ∙ arcs-out t out_at out_here
+
     pub weighs-turn : taken ≡ given → (many : ℕ) → many ≡ running (net_of net) (stored net b) t → many * taken ≤ firings_most
         → Weighs net shape b w (t + 1) (so_far + many * taken)
     unfolding firings_weight
@@ -135,21 +134,21 @@ module _ (net : List ℕ) (shape : Shape) (b : List ℕ) (f : Framed net shape b
           bounded = omega (arith, is.bounded);
         }
 
-    pub unbalanced-found : ¬ (taken ≡ given) → comes-to.Unbalanced t ≡ weighing (net_of net) w (stored net b)
+    pub unbalanced-found : ¬ (taken ≡ given) → Err (imbalance.Unbalanced t) ≡ weighing (net_of net) w (stored net b)
     unfolding first_unbalanced
     unbalanced-found d =
         let same = f.net_framed.has_shape.transitions_are in
         let first : t ≡ first_unbalanced (net_of net) w =
         lowest-found (is_unbalanced (net_of net) w) (net_of net).transitions t (omega arith)
         (rw (ne_eqb (weight_in (net_of net) w t) (weight_out (net_of net) w t) (λ e. d (in_is ∙ e ∙ sym out-is)))) is.even in
-        ap comes-to.Unbalanced first ∙ sym (is-unbalanced (net_of net) w (stored net b) (omega arith))
+        ap (λ (x : ℕ). Err (imbalance.Unbalanced x)) first ∙ sym (is-unbalanced (net_of net) w (stored net b) (omega arith))
 
   pub weighs-all : (t so_far : ℕ) → Weighs net shape b w t so_far → shape.transitions ≤ t
-      → comes-to.Total so_far ≡ weighing (net_of net) w (stored net b)
+      → Ok so_far ≡ weighing (net_of net) w (stored net b)
   unfolding total
   weighs-all t so_far is l =
       let same = f.net_framed.has_shape.transitions_are in
       let ends : t ≡ (net_of net).transitions = omega (arith, is.passed) in
       let none : (net_of net).transitions ≡ first_unbalanced (net_of net) w = none_first t (omega arith) is.passed is.even in
       let sums : so_far ≡ total (net_of net) w (stored net b) = is.weight ∙ rw (marking-is, ends) in
-      ap comes-to.Total sums ∙ sym (is-total (net_of net) w (stored net b) (omega arith))
+      ap Ok sums ∙ sym (is-total (net_of net) w (stored net b) (omega arith))

@@ -5,9 +5,8 @@ ghost use Rattle.balance.specs.Told.{balance_of, no_balance, balance_told};
 ghost use Rattle.balance.specs.Promised.{BalancePromise};
 
 use crate::weigh;
-use crate::weigh::Weighing;
+use crate::weigh::Imbalance;
 use engine::examine;
-use engine::examine::Examined;
 use forms::fault::Fault;
 
 // 30: a transition puts out another weight than it takes in.
@@ -24,34 +23,36 @@ pub struct BalanceTold {
     pub total: u64,
 }
 
-impl BalanceTold {
-    pub fn of(weighing: Weighing) -> BalanceTold
-        ensures { result ≡ balance_of weighing }
-    {
+impl From<Result<u64, Imbalance>> for BalanceTold {
+    ghost from_gives = { λ weighing told. told ≡ balance_of weighing };
+
+    fn from(weighing: Result<u64, Imbalance>) -> BalanceTold {
         match weighing {
-            Weighing::Total(total) => BalanceTold {
+            Ok(total) => BalanceTold {
                 number: 0,
                 index: 0,
                 total,
             },
-            Weighing::Unbalanced(t) => BalanceTold {
+            Err(Imbalance::Unbalanced(t)) => BalanceTold {
                 number: UNBALANCED,
                 index: t,
                 total: 0,
             },
-            Weighing::NoWeights => BalanceTold {
+            Err(Imbalance::NoWeights) => BalanceTold {
                 number: NO_WEIGHTS,
                 index: 0,
                 total: 0,
             },
         }
     }
+}
 
-    pub fn unfit(fault: Fault) -> BalanceTold
-        ensures { result ≡ no_balance fault }
-    {
+impl From<Fault> for BalanceTold {
+    ghost from_gives = { λ fault told. told ≡ no_balance fault };
+
+    fn from(fault: Fault) -> BalanceTold {
         BalanceTold {
-            number: fault.number(),
+            number: fault.into(),
             index: fault.index(),
             total: 0,
         }
@@ -64,7 +65,7 @@ pub fn balance(net: &[u8], state: &[u8], weights: &[u8]) -> BalanceTold
     ensures balance_promise { BalancePromise net.now state.now weights.now result }
 {
     match examine::examine_state(net, state) {
-        Examined::Fit(shape) => BalanceTold::of(weigh::weigh(net, shape, state, weights)),
-        Examined::Unfit(fault) => BalanceTold::unfit(fault),
+        Ok(net) => weigh::weigh(net.bytes, net.shape, state, weights).into(),
+        Err(fault) => fault.into(),
     }
 }

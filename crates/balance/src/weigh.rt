@@ -14,11 +14,12 @@ use forms::{places, words};
 use model::age::Age;
 use model::net::Net;
 
-// What comes of weighing: the total; a transition whose outputs weigh other than its inputs, the lowest; or the weights are not 2P bytes.
+// Why a net and weights have no total.
 #[derive(Clone, Copy)]
-pub enum Weighing {
-    Total(u64),
+pub enum Imbalance {
+    // the lowest transition whose outputs weigh other than its inputs
     Unbalanced(usize),
+    // the weights are not 2P bytes
     NoWeights,
 }
 
@@ -27,14 +28,9 @@ fn arcs(net: &[u8], from: usize, weights: &[u8], places: usize) -> usize
     requires { (places < 256) × (from + places ≤ length net.now) × (2 * places ≤ length weights.now) }
     ensures { (result ≡ weighed places (weight_at weights.now) (λ p. byte net.now (from + p))) × (result ≤ places * arc_most) }
 {
-    let mut weight = 0;
-    let mut p = 0;
-    while p < places {
-        let one = words::read16(weights, 2 * p) * words::wide(net[from + p]);
-        weight = weight + one;
-        p += 1;
-    }
-    weight
+    (0..places)
+        .map(|p| words::read16(weights, 2 * p) * words::wide(net[from + p]))
+        .sum()
 }
 
 // What the marking weighs.
@@ -42,14 +38,9 @@ fn marking(state: &[u8], weights: &[u8], places: usize) -> usize
     requires { (places < 256) × (mark_at places ≤ length state.now) × (2 * places ≤ length weights.now) }
     ensures { (result ≡ weighed places (weight_at weights.now) (λ p. word state.now (mark_at p))) × (result ≤ places * tokens_most) }
 {
-    let mut weight = 0;
-    let mut p = 0;
-    while p < places {
-        let one = words::read16(weights, 2 * p) * words::read16(state, places::mark_at(p));
-        weight = weight + one;
-        p += 1;
-    }
-    weight
+    (0..places)
+        .map(|p| words::read16(weights, 2 * p) * words::read16(state, places::mark_at(p)))
+        .sum()
 }
 
 // The sum of n words of two bytes.
@@ -57,43 +48,35 @@ fn words_sum(s: &[u8], at: usize, n: usize) -> usize
     requires { (n < 256) × (at + 2 * n ≤ length s.now) }
     ensures { (result ≡ sum n (λ k. word s.now (at + 2 * k))) × (result ≤ n * word_most) }
 {
-    let mut all = 0;
-    let mut k = 0;
-    while k < n {
-        all = all + words::read16(s, at + 2 * k);
-        k += 1;
-    }
-    all
+    (0..n).map(|k| words::read16(s, at + 2 * k)).sum()
 }
 
 // The state, weighed transition by transition; the first that is unbalanced ends it.
-fn weigh_all(net: &[u8], shape: Net, state: &[u8], weights: &[u8]) -> Weighing
+fn weigh_all(net: &[u8], shape: Net, state: &[u8], weights: &[u8]) -> Result<u64, Imbalance>
     requires { Framed net.now shape state.now × (2 * shape.places ≤ length weights.now) }
     ensures { result ≡ weighing (net_of net.now) (weight_at weights.now) (stored net.now state.now) }
 {
     let places = shape.places;
     let mut total = marking(state, weights, places);
-    let mut t = 0;
-    while t < shape.transitions {
+    for t in 0..shape.transitions {
         let taken = arcs(net, places::inputs_at(places, t), weights, places);
         let given = arcs(net, places::outputs_at(places, t), weights, places);
         if taken != given {
-            return Weighing::Unbalanced(t);
+            return Err(Imbalance::Unbalanced(t));
         }
         let row = places::count_at(shape, t, Age(0).column());
-        total = total + words_sum(state, row, shape.width) * taken;
-        t += 1;
+        total += words_sum(state, row, shape.width) * taken;
     }
-    Weighing::Total(total as u64)
+    Ok(total as u64)
 }
 
 // The state weighed by weights of two bytes for each place.
-pub fn weigh(net: &[u8], shape: Net, state: &[u8], weights: &[u8]) -> Weighing
+pub fn weigh(net: &[u8], shape: Net, state: &[u8], weights: &[u8]) -> Result<u64, Imbalance>
     requires { Framed net.now shape state.now }
     ensures { result ≡ checked_weighing (net_of net.now) weights.now (stored net.now state.now) }
 {
     if weights.len() != 2 * shape.places {
-        return Weighing::NoWeights;
+        return Err(Imbalance::NoWeights);
     }
     weigh_all(net, shape, state, weights)
 }

@@ -1,23 +1,27 @@
--- `weigh::arcs` meets its contract. The loop keeps what the arcs passed weigh.
-use Prim.Native.Nat.{◌+◌, ◌*◌, ◌≤◌}
+-- `weigh::arcs` meets its contract: each term is a word by a byte.
+use Rattle.std.proofs.Common.{◌+◌, ◌*◌, rules}
 use native.Mathlib.Omega.{arith}
 use Rattle.forms.specs.Word.{byte}
 use Rattle.balance.specs.Bounds.{arc_most}
 use Rattle.balance.specs.Told.{weight_at}
-use Rattle.balance.proofs.Bounds.{word-by-byte}
-use Rattle.balance.proofs.Turns.{weighed-begin, weighed-turn}
+use Rattle.balance.specs.Weights.{weighed}
+use Rattle.balance.proofs.Bounds.{word-by-byte, word-small, byte-small}
+use Rattle.balance.proofs.Chains.{chain-sums, chain-fits}
 use Rattle.balance.proofs.weigh.arcs.Goals as goal
 
-pub loop-p-init : goal.loop-p-init
-loop-p-init c =
-    let a = c.args in (omega arith, weighed-begin (weight_at a.weights.now) (λ q. byte a.net.now (a.from + q)), omega arith)
+pub sum-requires-clause-fits : goal.sum-requires-clause-fits
+sum-requires-clause-fits c =
+    let a = c.args in
+    let t = c.type_inv in
+    chain-fits _ a.places arc_most (λ p. weight_at a.weights.now p * byte a.net.now (a.from + p))
+    (λ p. word-by-byte _ _ (word-small a.weights.now t.weights (2 * p)) (byte-small a.net.now t.net (a.from + p)))
+    (cc) c.map.ensures.closure (λ x r q k. search rules) _ (omega arith)
 
-pub loop-p-preserved : goal.loop-p-preserved
-loop-p-preserved c =
-    let small : c.read16.result * c.wide.result ≤ arc_most =
-    word-by-byte _ _ c.read16.ensures.1 c.wide.ensures.1 in
-    let a = c.args in (
-      omega arith,
-      weighed-turn (weight_at a.weights.now) (λ q. byte a.net.now (a.from + q)) c.loop-p.p c.loop-p.weight _ _ c.loop-p.invariant.1 c.read16.ensures.0 c.wide.ensures.0,
-      omega (arith, small),
-    )
+pub returns : goal.returns
+unfolding weighed
+returns c =
+    let a = c.args in
+    let t = c.type_inv in
+    chain-sums _ a.places arc_most (λ p. weight_at a.weights.now p * byte a.net.now (a.from + p))
+    (λ p. word-by-byte _ _ (word-small a.weights.now t.weights (2 * p)) (byte-small a.net.now t.net (a.from + p)))
+    (cc) c.map.ensures.closure (λ x r q k. search rules) _ c.sum.ensures.ran

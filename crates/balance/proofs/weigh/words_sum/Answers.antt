@@ -1,16 +1,18 @@
--- `weigh::words_sum` meets its contract. The loop keeps the sum of the words passed.
-use mathlib.Core.Path.{refl}
-use Prim.Native.Nat.{◌+◌, ◌*◌}
+-- `weigh::words_sum` meets its contract: each term is a word.
+use Rattle.std.proofs.Common.{◌+◌, ◌*◌, rules}
 use native.Mathlib.Omega.{arith}
 use Rattle.forms.specs.Word.{word}
-use Rattle.balance.proofs.Turns.{sum-begin, sum-turn}
+use Rattle.balance.specs.Bounds.{word_most}
+use Rattle.balance.proofs.Bounds.{word-small}
+use Rattle.balance.proofs.Chains.{chain-sums, chain-fits}
 use Rattle.balance.proofs.weigh.words_sum.Goals as goal
 
-pub loop-k-init : goal.loop-k-init
-loop-k-init c = let a = c.args in (omega arith, sum-begin (λ i. word a.s.now (a.at + 2 * i)), omega arith)
-
-pub loop-k-preserved : goal.loop-k-preserved
-loop-k-preserved c =
+pub sum-requires-clause-fits : goal.sum-requires-clause-fits
+sum-requires-clause-fits c =
     let a = c.args in
-    let r = c.read16-all in
-    (omega arith, sum-turn (λ i. word a.s.now (a.at + 2 * i)) c.loop-k.k c.loop-k.all r.result (c.loop-k.all + r.result) c.loop-k.invariant.1 r.ensures.0 refl, omega arith)
+    chain-fits _ a.n word_most (λ k. word a.s.now (a.at + 2 * k)) (λ k. omega (arith, word-small a.s.now c.type_inv.s (a.at + 2 * k))) (cc) c.map.ensures.closure (λ x r q k. search rules) _ (omega arith)
+
+pub returns : goal.returns
+returns c =
+    let a = c.args in
+    chain-sums _ a.n word_most (λ k. word a.s.now (a.at + 2 * k)) (λ k. omega (arith, word-small a.s.now c.type_inv.s (a.at + 2 * k))) (cc) c.map.ensures.closure (λ x r q k. search rules) _ c.sum.ensures.ran
