@@ -18,16 +18,22 @@ ghost use Rattle.menu.specs.Fields.{said_started, OfAnswer, verdict_fields, even
 ghost use Rattle.menu.specs.Fields.{balance_fields};
 
 use balance::call as balance_call;
+use engine::answers::Verdict;
 use engine::calls;
 use runner::call;
+
+fn number_and_index(told: Verdict) -> [u64; 2]
+    ensures { result ≡ verdict_fields told }
+{
+    [told.number as u64, told.index as u64]
+}
 
 // Checks a net: 1 to 6.
 pub fn menu_check_net(net: &[u8], answer: &mut [u64; 2])
     ensures answer_after { answer.new ≡ verdict_fields (net_told net.now) }
     ensures of_answer { OfAnswer verdict_fields answer.new (λ r. CheckNetPromise net.now r) }
 {
-    let told = calls::check_net(net);
-    *answer = [told.number as u64, told.index as u64];
+    *answer = number_and_index(calls::check_net(net));
 }
 
 // Writes the initial state of a net at the front of the buffer: 1 to 7.
@@ -36,8 +42,7 @@ pub fn menu_initial(net: &[u8], state: &mut [u8], answer: &mut [u64; 2])
     ensures state_after { state.new ≡ initial_left net.now state.old }
     ensures of_answer { OfAnswer verdict_fields answer.new (λ r. InitialPromise net.now state.old r state.new) }
 {
-    let told = calls::initial(net, state);
-    *answer = [told.number as u64, told.index as u64];
+    *answer = number_and_index(calls::initial(net, state));
 }
 
 // Checks a state of a net: 1 to 6, 8, 9.
@@ -45,8 +50,7 @@ pub fn menu_check_state(net: &[u8], state: &[u8], answer: &mut [u64; 2])
     ensures answer_after { answer.new ≡ verdict_fields (state_told net.now state.now) }
     ensures of_answer { OfAnswer verdict_fields answer.new (λ r. CheckStatePromise net.now state.now r) }
 {
-    let told = calls::check_state(net, state);
-    *answer = [told.number as u64, told.index as u64];
+    *answer = number_and_index(calls::check_state(net, state));
 }
 
 // Does one event, given by its two bytes. `started`: a start has happened before it, in the same step. It tells 1 to 6, 8, 9, 11 to 20, 28, 29.
@@ -63,12 +67,11 @@ pub fn menu_event(
     ensures of_answer { OfAnswer event_fields answer.new (λ r. EventPromise net.now state.old first second (said_started started) r state.new) }
 {
     let told = calls::event(net, state, first, second, started != 0);
-    let short = told.short;
     *answer = [
         told.number as u64,
         told.index as u64,
-        short.place as u64,
-        short.lacks as u64,
+        told.short.place as u64,
+        told.short.lacks as u64,
     ];
 }
 
@@ -85,8 +88,7 @@ pub fn menu_back(
     ensures state_after { state.new ≡ back_left net.now state.old first second (said_started started) }
     ensures of_answer { OfAnswer verdict_fields answer.new (λ r. BackPromise net.now state.old first second (said_started started) r state.new) }
 {
-    let told = calls::back(net, state, first, second, started != 0);
-    *answer = [told.number as u64, told.index as u64];
+    *answer = number_and_index(calls::back(net, state, first, second, started != 0));
 }
 
 // How many times transition t is enabled: 1 to 6, 8, 9, 12.
@@ -104,17 +106,15 @@ pub fn menu_owed(net: &[u8], state: &[u8], answer: &mut [u64; 9])
     ensures of_answer { OfAnswer owed_fields answer.new (λ r. OwedPromise net.now state.now r) }
 {
     let told = calls::owed(net, state);
-    let starts = told.starts;
-    let ends = told.ends;
     *answer = [
         told.number as u64,
         told.index as u64,
-        starts.word,
-        ends.word,
-        starts.count as u64,
-        ends.count as u64,
-        starts.lowest as u64,
-        ends.lowest as u64,
+        told.starts.word,
+        told.ends.word,
+        told.starts.count as u64,
+        told.ends.count as u64,
+        told.starts.lowest as u64,
+        told.ends.lowest as u64,
         told.standing as u64,
     ];
 }
@@ -126,14 +126,13 @@ pub fn menu_run(net: &[u8], state: &mut [u8], log: &[u8], started: u64, answer: 
     ensures of_answer { OfAnswer run_fields answer.new (λ r. RunPromise net.now state.old log.now (said_started started) r state.new) }
 {
     let told = calls::run(net, state, log, started != 0);
-    let short = told.short;
     *answer = [
         told.number as u64,
         told.index as u64,
         told.done as u64,
         told.ticks as u64,
-        short.place as u64,
-        short.lacks as u64,
+        told.short.place as u64,
+        told.short.lacks as u64,
         told.started as u64,
     ];
 }
