@@ -13,50 +13,50 @@ use Rattle.phrases.specs.Wording.Worded.{none, more}
 -- A NUMBER AND A NAME
 
 module _ (before : List ℕ) (at n : ℕ) (spelt : List ℕ) (last : ℕ) (s : Spelt before at n spelt last) where
-  pub number-alone : Numbered before at n [] spelt last
+  pub number_alone : Numbered before at n [] spelt last
   unfolding called behind_name
-  number-alone = record { spelt = spelt; last = last; number = s; stands = refl; ends = refl }
+  number_alone = record { spelt = spelt; last = last; number = s; stands = refl; ends = refl }
 
-  pub with-name : (name : List ℕ) → 0 < length name
+  pub with_name : (name : List ℕ) → 0 < length name
       → Numbered before at n name (paste (set spelt last space) (last + 1) name (length name)) (last + 1 + length name)
   unfolding called behind_name
-  with-name name some =
+  with_name name some =
       let e : eqb (length name) 0 ≡ false = ne_eqb (length name) 0 (omega arith) in
       record { spelt = spelt; last = last; number = s; stands = rw e refl; ends = rw e refl }
 
 -- ONE BYTE OF THE WORDS
 
 module _ (p : Phrase) (names before : List ℕ) (at b : ℕ) (after : List ℕ) (end : ℕ) where
-  pub place-piece : b ≡ 80 → Numbered before at (get_or p.numbers 0 0) (bytes_of names (name_of names kind.Place (get_or p.numbers 0 0))) after end → Piece p names before at b after end
+  pub place_piece : b ≡ 80 → Numbered before at (get_or p.numbers 0 0) (bytes_of names (name_of names kind.Place (get_or p.numbers 0 0))) after end → Piece p names before at b after end
   unfolding meaning
-  place-piece e h = record { meant = rw e h }
+  place_piece e h = record { meant = rw e h }
 
-  pub transition-piece : b ≡ 84 → Numbered before at (get_or p.numbers 0 0) (bytes_of names (name_of names kind.Transition (get_or p.numbers 0 0))) after end → Piece p names before at b after end
+  pub transition_piece : b ≡ 84 → Numbered before at (get_or p.numbers 0 0) (bytes_of names (name_of names kind.Transition (get_or p.numbers 0 0))) after end → Piece p names before at b after end
   unfolding meaning
-  transition-piece e h = record { meant = rw e h }
+  transition_piece e h = record { meant = rw e h }
 
-  pub number-piece : 65 ≤ b → b ≤ 68 → Spelt before at (get_or p.numbers (b - 65) 0) after end → Piece p names before at b after end
+  pub number_piece : 65 ≤ b → b ≤ 68 → Spelt before at (get_or p.numbers (b - 65) 0) after end → Piece p names before at b after end
   unfolding meaning
-  number-piece l u s = record {
-    meant = rw (ne_eqb b 80 (omega arith), ne_eqb b 84 (omega arith), le-leb 65 b l, le-leb b 68 u) (number-alone before at (chosen b p) after end s);
+  number_piece l u s = record {
+    meant = rw (ne_eqb b 80 (omega arith), ne_eqb b 84 (omega arith), le-leb 65 b l, le-leb b 68 u) (number_alone before at (chosen b p) after end s);
   }
 
-  pub plain-piece : b ≢ 80 → b ≢ 84 → (b < 65) ⊎ (68 < b) → after ≡ set before at b → end ≡ at + 1 → Piece p names before at b after end
+  pub plain_piece : b ≢ 80 → b ≢ 84 → (b < 65) ⊎ (68 < b) → after ≡ set before at b → end ≡ at + 1 → Piece p names before at b after end
   unfolding meaning
-  plain-piece n m (inl l) f g = record { meant = rw (ne_eqb b 80 n, ne_eqb b 84 m, lt-leb 65 b l) (f, g) }
-  plain-piece n m (inr u) f g = record { meant = rw (ne_eqb b 80 n, ne_eqb b 84 m, le-leb 65 b (omega arith), lt-leb b 68 u) (f, g) }
+  plain_piece n m (inl l) f g = record { meant = rw (ne_eqb b 80 n, ne_eqb b 84 m, lt-leb 65 b l) (f, g) }
+  plain_piece n m (inr u) f g = record { meant = rw (ne_eqb b 80 n, ne_eqb b 84 m, le-leb 65 b (omega arith), lt-leb b 68 u) (f, g) }
 
 -- THE LOOP
 
 -- what is put from the i-th byte on completes what was put before
 module _ (p : Phrase) (names words : List ℕ) where
-  pub worded-turn : (i : ℕ) (b b₁ b' : List ℕ) (at at₁ end byte : ℕ) → i < length words → byte ≡ get_or words i 0
+  pub worded_turn : (i : ℕ) (b b₁ b' : List ℕ) (at at₁ end byte : ℕ) → i < length words → byte ≡ get_or words i 0
       → Piece p names b at byte b₁ at₁ → Worded p names b₁ at₁ (drop (i + 1) words) b' end → Worded p names b at (drop i words) b' end
-  worded-turn i b b₁ b' at at₁ end byte h e s rest =
+  worded_turn i b b₁ b' at at₁ end byte h e s rest =
       let split : drop i words ≡ byte ∷ drop (i + 1) words =
       rw (add-one i) (drop-cons words i 0 h ∙ ap (λ (x : ℕ). x ∷ drop (suc i) words) (sym e)) in
       rw split (more s rest)
 
   -- none is left
-  pub worded-end : (i : ℕ) (b : List ℕ) (at : ℕ) → i ≡ length words → Worded p names b at (drop i words) b at
-  worded-end i b at e = rw (ap (λ (k : ℕ). drop k words) e ∙ drop-length words) none
+  pub worded_end : (i : ℕ) (b : List ℕ) (at : ℕ) → i ≡ length words → Worded p names b at (drop i words) b at
+  worded_end i b at e = rw (ap (λ (k : ℕ). drop k words) e ∙ drop-length words) none

@@ -13,6 +13,7 @@ use text::line;
 pub const PIECE_MOST: usize = line::DIGITS_MOST + 1 + names::NAME_MOST;
 
 // All of the words; the place behind them.
+#[tactic(auto, using(crate::proofs::Phrased::worded_turn, crate::proofs::Phrased::worded_end))]
 pub fn put(out: &mut [u8], at: usize, words: &[u8], phrase: Phrase, names: &[u8]) -> usize
     requires { at + length words.now * piece_most ≤ length out.old }
     ensures upper_bound { result ≤ at + length words.now * piece_most }
@@ -26,6 +27,7 @@ pub fn put(out: &mut [u8], at: usize, words: &[u8], phrase: Phrase, names: &[u8]
 }
 
 // What stands for one byte of the words.
+#[tactic(auto, using(crate::proofs::Phrased::place_piece, crate::proofs::Phrased::transition_piece, crate::proofs::Phrased::number_piece, crate::proofs::Phrased::plain_piece))]
 fn put_piece(out: &mut [u8], at: usize, byte: u8, phrase: Phrase, names: &[u8]) -> usize
     requires { at + piece_most ≤ length out.old }
     ensures upper_bound { result ≤ at + piece_most }
@@ -40,6 +42,7 @@ fn put_piece(out: &mut [u8], at: usize, byte: u8, phrase: Phrase, names: &[u8]) 
 }
 
 // A number, and a blank and the name behind it, where there is one.
+#[tactic(auto, using(crate::proofs::Phrased::number_alone, crate::proofs::Phrased::with_name))]
 fn put_named(out: &mut [u8], at: usize, number: usize, kind: Kind, names: &[u8]) -> usize
     requires { at + piece_most ≤ length out.old }
     ensures upper_bound { result ≤ at + piece_most }

@@ -18,6 +18,8 @@ module _ (ns : List ℕ) where
   pub fields-end : (i : ℕ) (b : List ℕ) (at : ℕ) → i ≡ length ns → Fields b at (drop i ns) b at
   fields-end i b at e = rw (ap (λ (k : ℕ). drop k ns) e ∙ drop-length ns) none
 
+pub ruleset fields = (fields-end)
+
 -- a line with no buffer out of its parts: the name, the fields behind it, and the line's end
 module _ (before : List ℕ) (at : ℕ) (name ns named : List ℕ) (from : ℕ) (numbered : List ℕ) (last : ℕ) (after : List ℕ) (end : ℕ)
     (e : from ≡ at + length name) (f : named ≡ paste before at name (length name)) (fields : Fields named from ns numbered last) where

@@ -58,6 +58,7 @@ pub fn put_field(out: &mut [u8], at: usize, n: u64) -> usize
 }
 
 // The numbers, a blank before each.
+#[tactic(auto, using(crate::proofs::Puts::fields))]
 pub fn put_fields(out: &mut [u8], at: usize, numbers: &[u64]) -> usize
     requires { at + length numbers.now * field_most ≤ length out.old }
     ensures upper_bound { result ≤ at + length numbers.now * field_most }
