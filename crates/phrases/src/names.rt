@@ -51,7 +51,7 @@ pub fn next_bad(names: &[u8], after: usize) -> Option<usize>
         .map(|(before, _)| before + 1)
 }
 
-// The part of the file that is the name of this place or transition.
+// The part of the file that is the name of this place or transition. (`split` does not tell where a line stands: its place is counted.)
 pub fn name_of(names: &[u8], kind: Kind, number: usize) -> Option<Range<usize>>
     ensures value { result ≡ name_of names.now kind number }
     ensures bounds { IfSome result (λ name. IsPart name (length names.now)) }

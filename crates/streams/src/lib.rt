@@ -11,7 +11,7 @@ use std::io;
 use std::io::Read;
 
 // Reads until the buffer is full or the input ends, and answers how many bytes stand at its front: all that the input gave. A read that fails
-// is the error; what the input gave before it stands at the front as well.
+// is the error; what the input gave before it stands at the front as well, which the library's own `read_exact` does not promise.
 pub fn read_full<R: Read>(from: &mut R, buf: &mut [u8]) -> io::Result<usize>
     ensures in_bounds { IfOk result (λ n. IsPrefixLen n buf.new) }
     ensures bytes { IfOk result (λ n. Consumes (R.remaining from.old) (R.remaining from.new) (take n buf.new)) }
