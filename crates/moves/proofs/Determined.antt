@@ -4,6 +4,7 @@
 -- Assumes nothing.
 use mathlib.Core.Path.{sym, ◌∙◌}
 use Rattle.model.proofs.Determined.{Determined, LeavesOne}
+use Rattle.owed.proofs.Determined.{found-once}
 use Rattle.moves.proofs.shift.shift_up.Reads as shift-up
 use Rattle.moves.proofs.shift.shift_up.Kinds as shift-up-kinds
 use Rattle.moves.proofs.shift.shift_down.Reads as shift-down
@@ -60,54 +61,54 @@ pub shift-down-leaves : LeavesOne 1 shift-down-kinds.ps shift-down-kinds.r shift
 shift-down-leaves κs args x y s s' p q = p ∙ sym q
 
 pub take-determined : Determined 2 take-kinds.ps take-kinds.r take.Learnt
-take-determined κs args x y s s' p q = p.0 ∙ sym q.0
+take-determined κs args x y s s' p q = found-once _ _ x y p.0 q.0
 
-pub take-leaves : LeavesOne 2 take-kinds.ps take-kinds.r take.Learnt (λ κs s. s.1.1.0.now)
+pub take-leaves : LeavesOne 2 take-kinds.ps take-kinds.r take.Learnt (λ κs s. s.1.0.now)
 take-leaves κs args x y s s' p q = p.1 ∙ sym q.1
 
 pub give-determined : Determined 2 give-kinds.ps give-kinds.r give.Learnt
 give-determined κs args x y s s' p q = p.0 ∙ sym q.0
 
-pub give-leaves : LeavesOne 2 give-kinds.ps give-kinds.r give.Learnt (λ κs s. s.1.1.0.now)
+pub give-leaves : LeavesOne 2 give-kinds.ps give-kinds.r give.Learnt (λ κs s. s.1.0.now)
 give-leaves κs args x y s s' p q = p.1 ∙ sym q.1
 
-pub move-on-leaves : LeavesOne 2 move-on-kinds.ps move-on-kinds.r move-on.Learnt (λ κs s. s.1.1.0.now)
+pub move-on-leaves : LeavesOne 2 move-on-kinds.ps move-on-kinds.r move-on.Learnt (λ κs s. s.1.0.now)
 move-on-leaves κs args x y s s' p q = p ∙ sym q
 
 pub tick-determined : Determined 2 tick-kinds.ps tick-kinds.r tick.Learnt
 tick-determined κs args x y s s' p q = p.0 ∙ sym q.0
 
-pub tick-leaves : LeavesOne 2 tick-kinds.ps tick-kinds.r tick.Learnt (λ κs s. s.1.1.0.now)
+pub tick-leaves : LeavesOne 2 tick-kinds.ps tick-kinds.r tick.Learnt (λ κs s. s.1.0.now)
 tick-leaves κs args x y s s' p q = p.1 ∙ sym q.1
 
 pub untick-determined : Determined 2 untick-kinds.ps untick-kinds.r untick.Learnt
 untick-determined κs args x y s s' p q = p.0 ∙ sym q.0
 
-pub untick-leaves : LeavesOne 2 untick-kinds.ps untick-kinds.r untick.Learnt (λ κs s. s.1.1.0.now)
+pub untick-leaves : LeavesOne 2 untick-kinds.ps untick-kinds.r untick.Learnt (λ κs s. s.1.0.now)
 untick-leaves κs args x y s s' p q = p.1 ∙ sym q.1
 
 pub start-determined : Determined 2 start-kinds.ps start-kinds.r start.Learnt
 start-determined κs args x y s s' p q = p.0 ∙ sym q.0
 
-pub start-leaves : LeavesOne 2 start-kinds.ps start-kinds.r start.Learnt (λ κs s. s.1.1.0.now)
+pub start-leaves : LeavesOne 2 start-kinds.ps start-kinds.r start.Learnt (λ κs s. s.1.0.now)
 start-leaves κs args x y s s' p q = p.1 ∙ sym q.1
 
 pub unstart-determined : Determined 2 unstart-kinds.ps unstart-kinds.r unstart.Learnt
 unstart-determined κs args x y s s' p q = p.0 ∙ sym q.0
 
-pub unstart-leaves : LeavesOne 2 unstart-kinds.ps unstart-kinds.r unstart.Learnt (λ κs s. s.1.1.0.now)
+pub unstart-leaves : LeavesOne 2 unstart-kinds.ps unstart-kinds.r unstart.Learnt (λ κs s. s.1.0.now)
 unstart-leaves κs args x y s s' p q = p.1 ∙ sym q.1
 
 pub end-determined : Determined 2 end-kinds.ps end-kinds.r end.Learnt
 end-determined κs args x y s s' p q = p.0 ∙ sym q.0
 
-pub end_leaves : LeavesOne 2 end-kinds.ps end-kinds.r end.Learnt (λ κs s. s.1.1.0.now)
+pub end_leaves : LeavesOne 2 end-kinds.ps end-kinds.r end.Learnt (λ κs s. s.1.0.now)
 end_leaves κs args x y s s' p q = p.1 ∙ sym q.1
 
 pub unend-determined : Determined 2 unend-kinds.ps unend-kinds.r unend.Learnt
 unend-determined κs args x y s s' p q = p.0 ∙ sym q.0
 
-pub unend-leaves : LeavesOne 2 unend-kinds.ps unend-kinds.r unend.Learnt (λ κs s. s.1.1.0.now)
+pub unend-leaves : LeavesOne 2 unend-kinds.ps unend-kinds.r unend.Learnt (λ κs s. s.1.0.now)
 unend-leaves κs args x y s s' p q = p.1 ∙ sym q.1
 
 pub has-room-determined : Determined 2 has-room-kinds.ps has-room-kinds.r has_room_call.Learnt
@@ -128,47 +129,47 @@ clear-before-determined κs args x y s s' p q = p ∙ sym q
 pub ordered-start-determined : Determined 2 ordered-start-kinds.ps ordered-start-kinds.r ordered-start.Learnt
 ordered-start-determined κs args x y s s' p q = p.0 ∙ sym q.0
 
-pub ordered-start-leaves : LeavesOne 2 ordered-start-kinds.ps ordered-start-kinds.r ordered-start.Learnt (λ κs s. s.1.1.0.now)
+pub ordered-start-leaves : LeavesOne 2 ordered-start-kinds.ps ordered-start-kinds.r ordered-start.Learnt (λ κs s. s.1.0.now)
 ordered-start-leaves κs args x y s s' p q = p.1 ∙ sym q.1
 
 pub ordered-unstart-determined : Determined 2 ordered-unstart-kinds.ps ordered-unstart-kinds.r ordered-unstart.Learnt
 ordered-unstart-determined κs args x y s s' p q = p.0 ∙ sym q.0
 
-pub ordered-unstart-leaves : LeavesOne 2 ordered-unstart-kinds.ps ordered-unstart-kinds.r ordered-unstart.Learnt (λ κs s. s.1.1.0.now)
+pub ordered-unstart-leaves : LeavesOne 2 ordered-unstart-kinds.ps ordered-unstart-kinds.r ordered-unstart.Learnt (λ κs s. s.1.0.now)
 ordered-unstart-leaves κs args x y s s' p q = p.1 ∙ sym q.1
 
 pub ordered-end-determined : Determined 2 ordered-end-kinds.ps ordered-end-kinds.r ordered_end.Learnt
 ordered-end-determined κs args x y s s' p q = p.0 ∙ sym q.0
 
-pub ordered-end-leaves : LeavesOne 2 ordered-end-kinds.ps ordered-end-kinds.r ordered_end.Learnt (λ κs s. s.1.1.0.now)
+pub ordered-end-leaves : LeavesOne 2 ordered-end-kinds.ps ordered-end-kinds.r ordered_end.Learnt (λ κs s. s.1.0.now)
 ordered-end-leaves κs args x y s s' p q = p.1 ∙ sym q.1
 
 pub ordered-unend-determined : Determined 2 ordered-unend-kinds.ps ordered-unend-kinds.r ordered-unend.Learnt
 ordered-unend-determined κs args x y s s' p q = p.0 ∙ sym q.0
 
-pub ordered-unend-leaves : LeavesOne 2 ordered-unend-kinds.ps ordered-unend-kinds.r ordered-unend.Learnt (λ κs s. s.1.1.0.now)
+pub ordered-unend-leaves : LeavesOne 2 ordered-unend-kinds.ps ordered-unend-kinds.r ordered-unend.Learnt (λ κs s. s.1.0.now)
 ordered-unend-leaves κs args x y s s' p q = p.1 ∙ sym q.1
 
 pub apply-determined : Determined 2 apply-kinds.ps apply-kinds.r apply.Learnt
 apply-determined κs args x y s s' p q = p.0 ∙ sym q.0
 
-pub apply-leaves : LeavesOne 2 apply-kinds.ps apply-kinds.r apply.Learnt (λ κs s. s.1.1.0.now)
+pub apply-leaves : LeavesOne 2 apply-kinds.ps apply-kinds.r apply.Learnt (λ κs s. s.1.0.now)
 apply-leaves κs args x y s s' p q = p.1 ∙ sym q.1
 
 pub back-determined : Determined 2 back-kinds.ps back-kinds.r back.Learnt
 back-determined κs args x y s s' p q = p.0 ∙ sym q.0
 
-pub back-leaves : LeavesOne 2 back-kinds.ps back-kinds.r back.Learnt (λ κs s. s.1.1.0.now)
+pub back-leaves : LeavesOne 2 back-kinds.ps back-kinds.r back.Learnt (λ κs s. s.1.0.now)
 back-leaves κs args x y s s' p q = p.1 ∙ sym q.1
 
 pub tick-again-determined : Determined 2 tick-again-kinds.ps tick-again-kinds.r tick-again.Learnt
 tick-again-determined κs args x y s s' p q = p.0 ∙ sym q.0
 
-pub tick-again-leaves : LeavesOne 2 tick-again-kinds.ps tick-again-kinds.r tick-again.Learnt (λ κs s. s.1.1.0.now)
+pub tick-again-leaves : LeavesOne 2 tick-again-kinds.ps tick-again-kinds.r tick-again.Learnt (λ κs s. s.1.0.now)
 tick-again-leaves κs args x y s s' p q = p.1 ∙ sym q.1
 
 pub untick-again-determined : Determined 2 untick-again-kinds.ps untick-again-kinds.r untick-again.Learnt
 untick-again-determined κs args x y s s' p q = p.0 ∙ sym q.0
 
-pub untick-again-leaves : LeavesOne 2 untick-again-kinds.ps untick-again-kinds.r untick-again.Learnt (λ κs s. s.1.1.0.now)
+pub untick-again-leaves : LeavesOne 2 untick-again-kinds.ps untick-again-kinds.r untick-again.Learnt (λ κs s. s.1.0.now)
 untick-again-leaves κs args x y s s' p q = p.1 ∙ sym q.1

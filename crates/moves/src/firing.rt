@@ -1,140 +1,136 @@
 // Starts and ends of a transition that the order of the step permits (`order`), done (12; 13, 14; 15, 16, 17) and taken back (12; 24, 25; 15,
 // 26, 27). For these it is all one whether a start has happened in the step.
-ghost use Rattle.std.specs.Prelude.{◌≡◌, true, false, ◌<◌};
+ghost use Rattle.std.specs.Prelude.{◌≡◌, true, false, ◌+◌, ◌<◌, ◌≤◌, length};
 ghost use Rattle.model.specs.declared.event.Event.TheVariants as event;
 ghost use Rattle.model.specs.Rules.{answer_of, is_timely, has_no_old_end_owed};
-ghost use Rattle.forms.specs.Word.{byte};
+ghost use Rattle.model.specs.Age.{column_of};
+ghost use Rattle.forms.specs.Word.{byte, set_word};
+ghost use Rattle.forms.specs.Places.{count_at};
 ghost use Rattle.forms.specs.Stored.{net_of, stored};
-ghost use Rattle.forms.specs.Nets.{IsNet};
-ghost use Rattle.forms.specs.Frame.{Framed};
+ghost use Rattle.forms.specs.States.{IsState};
 ghost use Rattle.moves.specs.After.{applied, state_taken_back, after};
 
 use crate::marking;
-use forms::{net, places, words};
+use forms::checked::CheckedNet;
+use forms::{places, words};
 use model::age::Age;
 use model::answer::{Barrier, Refusal};
 use model::net::Net;
-use owed::{counts, marks, starts};
+use owed::{counts, marks, starts, weights};
 
 // The age is in the interval of transition t.
-pub fn timely(net: &[u8], t: usize, age: Age) -> bool
-    requires { IsNet net.now × (t < byte net.now 6) }
-    ensures { result ≡ is_timely (net_of net.now) t age.0 }
+#[tactic(auto, unfolding(model::specs::Rules::is_timely))]
+pub fn timely(net: CheckedNet, t: usize, age: Age) -> bool
+    requires { t < net.shape.transitions }
+    ensures { result ≡ is_timely (net_of net.entry.bytes.now) t age.0 }
 {
-    if (age.0 as usize) < net::sfd(net, t) {
-        return false;
-    }
-    (age.0 as usize) <= net::lfd(net, t)
+    (net.sfd(t)..=net.lfd(t)).contains(&(age.0 as usize))
 }
 
 // Transition t starts.
-pub fn start(net: &[u8], shape: Net, state: &mut [u8], t: usize) -> Result<(), Refusal>
-    requires framed { Framed net.now shape state.old }
-    requires state_value { has_no_old_end_owed (net_of net.now) (stored net.now state.old) ≡ true }
-    ensures value { result ≡ answer_of (applied net.now false state.old (event.Start t)) }
-    ensures state_after { state.new ≡ after (net_of net.now) (applied net.now false state.old (event.Start t)) state.old }
+pub fn start(net: CheckedNet, state: &mut [u8], t: usize) -> Result<(), Refusal>
+    requires is_state { IsState (net_of net.bytes.now) state.old }
+    requires state_value { has_no_old_end_owed (net_of net.bytes.now) (stored net.bytes.now state.old) ≡ true }
+    ensures value { result ≡ answer_of (applied net.entry.bytes.now false state.old (event.Start t)) }
+    ensures state_after { state.new ≡ after (net_of net.entry.bytes.now) (applied net.entry.bytes.now false state.old (event.Start t)) state.old }
 {
-    if shape.transitions <= t {
+    if net.shape.transitions <= t {
         return Err(Refusal::NoSuchTransition);
     }
-    let running = counts::count(net, shape, state, t, Age(0));
+    let running = counts::count(net, state, t, Age(0));
     if !Net::held(running + 1) {
         // 13 is told before 14
-        let p = starts::lacking(net, shape, state, t);
-        if p < shape.places {
-            return Err(Refusal::NotEnabled(starts::short(net, shape, state, t, p)));
+        if let Some(p) = starts::lacking(net, state, t) {
+            return Err(Refusal::NotEnabled(starts::short(net, state, t, p)));
         }
         return Err(Refusal::CountFull);
     }
-    let from = places::inputs_at(shape.places, t);
     // the test that `lacking` makes, made as the tokens are taken: both promise the same place
-    let p = marking::take(net, from, state, shape.places);
-    if p < shape.places {
-        return Err(Refusal::NotEnabled(starts::short(net, shape, state, t, p)));
+    if let Some(p) = marking::take(weights::inputs(net, t), state) {
+        return Err(Refusal::NotEnabled(starts::short(net, state, t, p)));
     }
-    words::write16(
-        state,
-        places::count_at(shape, t, Age(0).column()),
-        running + 1,
-    );
+    set_count(net.shape, state, t, Age(0), running + 1);
     Ok(())
 }
 
 // A start of transition t is taken back.
-pub fn unstart(net: &[u8], shape: Net, state: &mut [u8], t: usize) -> Result<(), Refusal>
-    requires framed { Framed net.now shape state.old }
-    requires state_value { has_no_old_end_owed (net_of net.now) (stored net.now state.old) ≡ true }
-    ensures value { result ≡ answer_of (state_taken_back net.now false state.old (event.Start t)) }
-    ensures state_after { state.new ≡ after (net_of net.now) (state_taken_back net.now false state.old (event.Start t)) state.old }
+pub fn unstart(net: CheckedNet, state: &mut [u8], t: usize) -> Result<(), Refusal>
+    requires is_state { IsState (net_of net.bytes.now) state.old }
+    requires state_value { has_no_old_end_owed (net_of net.bytes.now) (stored net.bytes.now state.old) ≡ true }
+    ensures value { result ≡ answer_of (state_taken_back net.entry.bytes.now false state.old (event.Start t)) }
+    ensures state_after { state.new ≡ after (net_of net.entry.bytes.now) (state_taken_back net.entry.bytes.now false state.old (event.Start t)) state.old }
 {
-    if shape.transitions <= t {
+    if net.shape.transitions <= t {
         return Err(Refusal::NoSuchTransition);
     }
-    let running = counts::count(net, shape, state, t, Age(0));
+    let running = counts::count(net, state, t, Age(0));
     if running == 0 {
         return Err(Refusal::OnlyBack(Barrier::NoneStarted));
     }
-    let from = places::inputs_at(shape.places, t);
-    if !marking::give(net, from, state, shape.places) {
+    if !marking::give(weights::inputs(net, t), state) {
         return Err(Refusal::OnlyBack(Barrier::PlaceOverfull));
     }
-    words::write16(
-        state,
-        places::count_at(shape, t, Age(0).column()),
-        running - 1,
-    );
+    set_count(net.shape, state, t, Age(0), running - 1);
     Ok(())
 }
 
 // Transition t ends, at an age.
-pub fn end(net: &[u8], shape: Net, state: &mut [u8], t: usize, age: Age) -> Result<(), Refusal>
-    requires { Framed net.now shape state.old }
-    ensures value { result ≡ answer_of (applied net.now false state.old (event.End t age)) }
-    ensures state_after { state.new ≡ after (net_of net.now) (applied net.now false state.old (event.End t age)) state.old }
+pub fn end(net: CheckedNet, state: &mut [u8], t: usize, age: Age) -> Result<(), Refusal>
+    requires { IsState (net_of net.bytes.now) state.old }
+    ensures value { result ≡ answer_of (applied net.entry.bytes.now false state.old (event.End t age)) }
+    ensures state_after { state.new ≡ after (net_of net.entry.bytes.now) (applied net.entry.bytes.now false state.old (event.End t age)) state.old }
 {
-    if shape.transitions <= t {
+    if net.shape.transitions <= t {
         return Err(Refusal::NoSuchTransition);
     }
     if !timely(net, t, age) {
         return Err(Refusal::OutsideInterval);
     }
-    let running = counts::count(net, shape, state, t, age);
+    let running = counts::count(net, state, t, age);
     if running == 0 {
         return Err(Refusal::NoneOfThatAge);
     }
-    let from = places::outputs_at(shape.places, t);
-    if !marking::give(net, from, state, shape.places) {
+    if !marking::give(weights::outputs(net, t), state) {
         return Err(Refusal::PlaceFull);
     }
-    words::write16(state, places::count_at(shape, t, age.column()), running - 1);
+    set_count(net.shape, state, t, age, running - 1);
     Ok(())
 }
 
 // An end of transition t at an age is taken back.
-pub fn unend(net: &[u8], shape: Net, state: &mut [u8], t: usize, age: Age) -> Result<(), Refusal>
-    requires { Framed net.now shape state.old }
-    ensures value { result ≡ answer_of (state_taken_back net.now false state.old (event.End t age)) }
-    ensures state_after { state.new ≡ after (net_of net.now) (state_taken_back net.now false state.old (event.End t age)) state.old }
+pub fn unend(net: CheckedNet, state: &mut [u8], t: usize, age: Age) -> Result<(), Refusal>
+    requires { IsState (net_of net.bytes.now) state.old }
+    ensures value { result ≡ answer_of (state_taken_back net.entry.bytes.now false state.old (event.End t age)) }
+    ensures state_after { state.new ≡ after (net_of net.entry.bytes.now) (state_taken_back net.entry.bytes.now false state.old (event.End t age)) state.old }
 {
-    if shape.transitions <= t {
+    if net.shape.transitions <= t {
         return Err(Refusal::NoSuchTransition);
     }
     if !timely(net, t, age) {
         return Err(Refusal::OutsideInterval);
     }
-    let running = counts::count(net, shape, state, t, age);
-    let from = places::outputs_at(shape.places, t);
+    let running = counts::count(net, state, t, age);
+    let given = weights::outputs(net, t);
     if !Net::held(running + 1) {
         // 26 is told before 27
-        if marks::short_place(net, from, state, shape.places) < shape.places {
+        if marks::short_place(given, state).is_some() {
             return Err(Refusal::OnlyBack(Barrier::TooFewTokens));
         }
         return Err(Refusal::OnlyBack(Barrier::CountOverfull));
     }
     // the test that `short_place` makes, made as the tokens are taken
-    if marking::take(net, from, state, shape.places) < shape.places {
+    if marking::take(given, state).is_some() {
         return Err(Refusal::OnlyBack(Barrier::TooFewTokens));
     }
-    words::write16(state, places::count_at(shape, t, age.column()), running + 1);
+    set_count(net.shape, state, t, age, running + 1);
     Ok(())
+}
+
+// So many firings of transition t are of this age.
+fn set_count(shape: Net, state: &mut [u8], t: usize, age: Age, count: usize)
+    requires limits { (shape.places < 256) × (shape.width ≤ 256) × (t < 256) × (count < 65536) }
+    requires inside { count_at shape.places shape.width t (column_of age) + 1 < length state.old }
+    ensures { state.new ≡ set_word state.old (count_at shape.places shape.width t (column_of age)) count }
+{
+    words::write16(state, places::count_at(shape, t, age.column()), count);
 }

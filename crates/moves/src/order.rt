@@ -7,16 +7,15 @@ ghost use Rattle.model.specs.Net.{State};
 ghost use Rattle.model.specs.Moves.{started_by};
 ghost use Rattle.model.specs.Rules.{answer_of, refused, can_end, has_no_old_end_owed, apply, back};
 ghost use Rattle.forms.specs.Stored.{net_of, stored};
-ghost use Rattle.forms.specs.Frame.{FramedNet, Framed};
+ghost use Rattle.forms.specs.States.{IsState};
 ghost use Rattle.moves.specs.After.{applied, state_taken_back, after, Answers, step_of, clear_before};
 
 use crate::{firing, marking};
-use forms::{net, places};
+use forms::checked::CheckedNet;
 use model::age::Age;
 use model::answer::{Barrier, Refusal};
 use model::event::Event;
-use model::net::Net;
-use owed::{counts, starts};
+use owed::{counts, starts, weights};
 
 // What is known of the step that an event stands in, in the state before it.
 #[derive(Clone, Copy)]
@@ -55,28 +54,19 @@ pub fn clear_before(clear: bool, event: Event) -> bool
     ensures { result ≡ clear_before clear event }
 {
     match event {
-        Event::Tick => true,
-        Event::Start(_) => true,
-        Event::End(_, age) => {
-            if age.0 != 0 {
-                return false;
-            }
-            clear
-        }
+        Event::Tick | Event::Start(_) => true,
+        Event::End(_, age) => clear && age.0 == 0,
         Event::Malformed => clear,
     }
 }
 
 // No end of age 1 or more is owed, which may be known.
-fn may_start(net: &[u8], shape: Net, state: &[u8], known: bool) -> bool
-    requires framed { Framed net.now shape state.now }
-    requires state_value { known ≡ true → has_no_old_end_owed (net_of net.now) (stored net.now state.now) ≡ true }
-    ensures { result ≡ has_no_old_end_owed (net_of net.now) (stored net.now state.now) }
+fn may_start(net: CheckedNet, state: &[u8], known: bool) -> bool
+    requires is_state { IsState (net_of net.bytes.now) state.now }
+    requires state_value { known ≡ true → has_no_old_end_owed (net_of net.bytes.now) (stored net.bytes.now state.now) ≡ true }
+    ensures { result ≡ has_no_old_end_owed (net_of net.entry.bytes.now) (stored net.entry.bytes.now state.now) }
 {
-    if known {
-        return true;
-    }
-    counts::no_old_end_owed(net, shape, state)
+    known || counts::no_old_end_owed(net, state)
 }
 
 // Once a start has happened in the step, only firings of age 0 end.
@@ -84,74 +74,63 @@ fn may_start(net: &[u8], shape: Net, state: &[u8], known: bool) -> bool
 fn may_end(started: bool, age: Age) -> bool
     ensures { result ≡ can_end started age.0 }
 {
-    if !started {
-        return true;
-    }
-    age.0 == 0
+    !started || age.0 == 0
 }
 
 // Transition t starts. Whether a start has happened before in the step is all one to it.
-pub fn start(net: &[u8], shape: Net, state: &mut [u8], clear: bool, t: usize) -> Result<(), Refusal>
-    requires framed { Framed net.now shape state.old }
-    requires state_value { clear ≡ true → has_no_old_end_owed (net_of net.now) (stored net.now state.old) ≡ true }
-    ensures value { result ≡ answer_of (applied net.now false state.old (event.Start t)) }
-    ensures state_after { state.new ≡ after (net_of net.now) (applied net.now false state.old (event.Start t)) state.old }
+pub fn start(net: CheckedNet, state: &mut [u8], clear: bool, t: usize) -> Result<(), Refusal>
+    requires is_state { IsState (net_of net.bytes.now) state.old }
+    requires state_value { clear ≡ true → has_no_old_end_owed (net_of net.bytes.now) (stored net.bytes.now state.old) ≡ true }
+    ensures value { result ≡ answer_of (applied net.entry.bytes.now false state.old (event.Start t)) }
+    ensures state_after { state.new ≡ after (net_of net.entry.bytes.now) (applied net.entry.bytes.now false state.old (event.Start t)) state.old }
 {
-    if !may_start(net, shape, state, clear) {
-        return start_too_soon(net, shape, state, t);
+    if !may_start(net, state, clear) {
+        return start_too_soon(net, state, t);
     }
-    firing::start(net, shape, state, t)
+    firing::start(net, state, t)
 }
 
 // Why transition t does not start while an end of age 1 or more is owed: 12 and 13 are told before 29.
-fn start_too_soon(net: &[u8], shape: Net, state: &[u8], t: usize) -> Result<(), Refusal>
-    requires framed { Framed net.now shape state.now }
-    requires state_value { has_no_old_end_owed (net_of net.now) (stored net.now state.now) ≡ false }
-    ensures { Answers net.now state.now (applied net.now false state.now (event.Start t)) result state.now }
+fn start_too_soon(net: CheckedNet, state: &[u8], t: usize) -> Result<(), Refusal>
+    requires is_state { IsState (net_of net.bytes.now) state.now }
+    requires state_value { has_no_old_end_owed (net_of net.bytes.now) (stored net.bytes.now state.now) ≡ false }
+    ensures { Answers net.entry.bytes.now state.now (applied net.entry.bytes.now false state.now (event.Start t)) result state.now }
 {
-    if shape.transitions <= t {
+    if net.shape.transitions <= t {
         return Err(Refusal::NoSuchTransition);
     }
-    let p = starts::lacking(net, shape, state, t);
-    if p < shape.places {
-        return Err(Refusal::NotEnabled(starts::short(net, shape, state, t, p)));
+    if let Some(p) = starts::lacking(net, state, t) {
+        return Err(Refusal::NotEnabled(starts::short(net, state, t, p)));
     }
     Err(Refusal::OldEndOwed)
 }
 
 // A start of transition t is taken back. It changed no count of age 1 or more, so what is owed now of these was owed before it.
-pub fn unstart(
-    net: &[u8],
-    shape: Net,
-    state: &mut [u8],
-    clear: bool,
-    t: usize,
-) -> Result<(), Refusal>
-    requires framed { Framed net.now shape state.old }
-    requires state_value { clear ≡ true → has_no_old_end_owed (net_of net.now) (stored net.now state.old) ≡ true }
-    ensures value { result ≡ answer_of (state_taken_back net.now false state.old (event.Start t)) }
-    ensures state_after { state.new ≡ after (net_of net.now) (state_taken_back net.now false state.old (event.Start t)) state.old }
+pub fn unstart(net: CheckedNet, state: &mut [u8], clear: bool, t: usize) -> Result<(), Refusal>
+    requires is_state { IsState (net_of net.bytes.now) state.old }
+    requires state_value { clear ≡ true → has_no_old_end_owed (net_of net.bytes.now) (stored net.bytes.now state.old) ≡ true }
+    ensures value { result ≡ answer_of (state_taken_back net.entry.bytes.now false state.old (event.Start t)) }
+    ensures state_after { state.new ≡ after (net_of net.entry.bytes.now) (state_taken_back net.entry.bytes.now false state.old (event.Start t)) state.old }
 {
-    if !may_start(net, shape, state, clear) {
-        return unstart_too_soon(net, shape, state, t);
+    if !may_start(net, state, clear) {
+        return unstart_too_soon(net, state, t);
     }
-    firing::unstart(net, shape, state, t)
+    firing::unstart(net, state, t)
 }
 
 // Why a start of transition t cannot have been made while an end of age 1 or more was owed: 12, 24 and 25 are told before 29.
-fn unstart_too_soon(net: &[u8], shape: Net, state: &[u8], t: usize) -> Result<(), Refusal>
-    requires framed { Framed net.now shape state.now }
-    requires state_value { has_no_old_end_owed (net_of net.now) (stored net.now state.now) ≡ false }
-    ensures { Answers net.now state.now (state_taken_back net.now false state.now (event.Start t)) result state.now }
+fn unstart_too_soon(net: CheckedNet, state: &[u8], t: usize) -> Result<(), Refusal>
+    requires is_state { IsState (net_of net.bytes.now) state.now }
+    requires state_value { has_no_old_end_owed (net_of net.bytes.now) (stored net.bytes.now state.now) ≡ false }
+    ensures { Answers net.entry.bytes.now state.now (state_taken_back net.entry.bytes.now false state.now (event.Start t)) result state.now }
 {
-    if shape.transitions <= t {
+    if net.shape.transitions <= t {
         return Err(Refusal::NoSuchTransition);
     }
-    if counts::count(net, shape, state, t, Age(0)) == 0 {
+    if counts::count(net, state, t, Age(0)) == 0 {
         return Err(Refusal::OnlyBack(Barrier::NoneStarted));
     }
-    let from = places::inputs_at(shape.places, t);
-    if !marking::has_room(net, from, state, shape.places) {
+    if !marking::has_room(weights::inputs(net, t), state) {
         return Err(Refusal::OnlyBack(Barrier::PlaceOverfull));
     }
     Err(Refusal::OldEndOwed)
@@ -159,49 +138,46 @@ fn unstart_too_soon(net: &[u8], shape: Net, state: &[u8], t: usize) -> Result<()
 
 // Transition t ends, at an age.
 pub fn end(
-    net: &[u8],
-    shape: Net,
+    net: CheckedNet,
     state: &mut [u8],
     started: bool,
     t: usize,
     age: Age,
 ) -> Result<(), Refusal>
-    requires { Framed net.now shape state.old }
-    ensures value { result ≡ answer_of (applied net.now started state.old (event.End t age)) }
-    ensures state_after { state.new ≡ after (net_of net.now) (applied net.now started state.old (event.End t age)) state.old }
+    requires { IsState (net_of net.bytes.now) state.old }
+    ensures value { result ≡ answer_of (applied net.entry.bytes.now started state.old (event.End t age)) }
+    ensures state_after { state.new ≡ after (net_of net.entry.bytes.now) (applied net.entry.bytes.now started state.old (event.End t age)) state.old }
 {
     if !may_end(started, age) {
-        return Err(too_late(net, shape, t, age));
+        return Err(too_late(net, t, age));
     }
-    firing::end(net, shape, state, t, age)
+    firing::end(net, state, t, age)
 }
 
 // An end of transition t at an age is taken back.
 pub fn unend(
-    net: &[u8],
-    shape: Net,
+    net: CheckedNet,
     state: &mut [u8],
     started: bool,
     t: usize,
     age: Age,
 ) -> Result<(), Refusal>
-    requires { Framed net.now shape state.old }
-    ensures value { result ≡ answer_of (state_taken_back net.now started state.old (event.End t age)) }
-    ensures state_after { state.new ≡ after (net_of net.now) (state_taken_back net.now started state.old (event.End t age)) state.old }
+    requires { IsState (net_of net.bytes.now) state.old }
+    ensures value { result ≡ answer_of (state_taken_back net.entry.bytes.now started state.old (event.End t age)) }
+    ensures state_after { state.new ≡ after (net_of net.entry.bytes.now) (state_taken_back net.entry.bytes.now started state.old (event.End t age)) state.old }
 {
     if !may_end(started, age) {
-        return Err(too_late(net, shape, t, age));
+        return Err(too_late(net, t, age));
     }
-    firing::unend(net, shape, state, t, age)
+    firing::unend(net, state, t, age)
 }
 
 // Why a firing of age 1 or more does not end behind a start, whatever the state, and cannot have: 12 and 15 are told before 28.
-fn too_late(net: &[u8], shape: Net, t: usize, age: Age) -> Refusal
-    requires framed_net { FramedNet net.now shape }
+fn too_late(net: CheckedNet, t: usize, age: Age) -> Refusal
     requires age_value { can_end true age.0 ≡ false }
-    ensures { (S : State) → (apply (net_of net.now) true S (event.End t age) ≡ refused result) × (back (net_of net.now) true S (event.End t age) ≡ refused result) }
+    ensures { (S : State) → (apply (net_of net.entry.bytes.now) true S (event.End t age) ≡ refused result) × (back (net_of net.entry.bytes.now) true S (event.End t age) ≡ refused result) }
 {
-    if shape.transitions <= t {
+    if net.shape.transitions <= t {
         return Refusal::NoSuchTransition;
     }
     if !firing::timely(net, t, age) {

@@ -1,13 +1,15 @@
 // The degree of a transition: how many times it is enabled.
-ghost use Rattle.std.specs.Prelude.{◌≡◌, ◌+◌, ◌<◌, ◌≤◌, length};
+ghost use Rattle.std.specs.Prelude.{◌≡◌, ◌<◌, ◌≤◌, length};
 ghost use Rattle.model.specs.Tab.{least};
 ghost use Rattle.model.specs.Limits.{token_limit};
 ghost use Rattle.model.specs.Rules.{times as times_of, degree as degree_of};
 ghost use Rattle.forms.specs.Word.{byte, word};
 ghost use Rattle.forms.specs.Places.{mark_at};
 ghost use Rattle.forms.specs.Stored.{net_of, stored};
-ghost use Rattle.forms.specs.Frame.{Framed};
+ghost use Rattle.forms.specs.States.{IsState};
 
+use crate::weights;
+use forms::checked::CheckedNet;
 use forms::{places, words};
 use model::net::Net;
 
@@ -15,38 +17,25 @@ use model::net::Net;
 fn times(weight: usize, marking: usize) -> usize
     ensures { result ≡ times_of weight marking }
 {
-    if weight == 0 {
-        return Net::MAX_TOKENS;
-    }
-    marking / weight
+    marking.checked_div(weight).unwrap_or(Net::MAX_TOKENS)
 }
 
-// The least of these over so many places.
-fn least_times(net: &[u8], from: usize, state: &[u8], places: usize) -> usize
-    requires { (places < 256) × (from + places ≤ length net.now) × (mark_at places ≤ length state.now) }
-    ensures { result ≡ least token_limit places (λ p. times_of (byte net.now (from + p)) (word state.now (mark_at p))) }
+// The least of these over the places.
+fn least_times(weights: &[u8], state: &[u8]) -> usize
+    requires { (length weights.now < 256) × (mark_at (length weights.now) ≤ length state.now) }
+    ensures { result ≡ least token_limit (length weights.now) (λ p. times_of (byte weights.now p) (word state.now (mark_at p))) }
 {
-    let mut fewest = Net::MAX_TOKENS;
-    let mut p = 0;
-    while p < places {
-        let here = times(
-            words::wide(net[from + p]),
-            words::read16(state, places::mark_at(p)),
-        );
-        if here < fewest {
-            fewest = here;
-        }
-        p += 1;
-    }
-    fewest
+    (0..weights.len()).fold(Net::MAX_TOKENS, |fewest, p| {
+        let marking = words::read16(state, places::mark_at(p));
+        fewest.min(times(words::wide(weights[p]), marking))
+    })
 }
 
 // How many times transition t is enabled.
-pub fn degree(net: &[u8], shape: Net, state: &[u8], t: usize) -> usize
-    requires framed { Framed net.now shape state.now }
-    requires t_bound { t < byte net.now 6 }
-    ensures { result ≡ degree_of (net_of net.now) (stored net.now state.now) t }
+pub fn degree(net: CheckedNet, state: &[u8], t: usize) -> usize
+    requires is_state { IsState (net_of net.bytes.now) state.now }
+    requires t_bound { t < net.shape.transitions }
+    ensures { result ≡ degree_of (net_of net.entry.bytes.now) (stored net.entry.bytes.now state.now) t }
 {
-    let from = places::inputs_at(shape.places, t);
-    least_times(net, from, state, shape.places)
+    least_times(weights::inputs(net, t), state)
 }

@@ -3,38 +3,39 @@ ghost use Rattle.std.specs.Prelude.{◌≡◌, ◌<◌};
 ghost use Rattle.model.specs.Rules.{lacking_place, is_enabled, short, has_no_start_owed};
 ghost use Rattle.forms.specs.Word.{byte};
 ghost use Rattle.forms.specs.Stored.{net_of, stored};
-ghost use Rattle.forms.specs.Frame.{Framed};
+ghost use Rattle.forms.specs.States.{IsState};
+ghost use Rattle.owed.specs.Marks.{FoundBelow};
 
-use crate::marks;
+use crate::{marks, weights};
+use forms::checked::CheckedNet;
 use forms::{places, words};
 use model::answer::Short;
-use model::net::Net;
 
-// The lowest place that lacks tokens for a start of transition t, or the number of places where none does.
-pub fn lacking(net: &[u8], shape: Net, state: &[u8], t: usize) -> usize
-    requires framed { Framed net.now shape state.now }
-    requires t_bound { t < byte net.now 6 }
-    ensures { result ≡ lacking_place (net_of net.now) (stored net.now state.now) t }
+// The lowest place that lacks tokens for a start of transition t, or none.
+pub fn lacking(net: CheckedNet, state: &[u8], t: usize) -> Option<usize>
+    requires is_state { IsState (net_of net.bytes.now) state.now }
+    requires t_bound { t < net.shape.transitions }
+    ensures { FoundBelow net.entry.shape.places (lacking_place (net_of net.entry.bytes.now) (stored net.entry.bytes.now state.now) t) result }
 {
-    marks::short_place(net, places::inputs_at(shape.places, t), state, shape.places)
+    marks::short_place(weights::inputs(net, t), state)
 }
 
 // Transition t is enabled: no place lacks tokens.
-pub fn enabled(net: &[u8], shape: Net, state: &[u8], t: usize) -> bool
-    requires framed { Framed net.now shape state.now }
-    requires t_bound { t < byte net.now 6 }
-    ensures { result ≡ is_enabled (net_of net.now) (stored net.now state.now) t }
+pub fn enabled(net: CheckedNet, state: &[u8], t: usize) -> bool
+    requires is_state { IsState (net_of net.bytes.now) state.now }
+    requires t_bound { t < net.shape.transitions }
+    ensures { result ≡ is_enabled (net_of net.entry.bytes.now) (stored net.entry.bytes.now state.now) t }
 {
-    lacking(net, shape, state, t) == shape.places
+    lacking(net, state, t).is_none()
 }
 
 // What place p lacks for a start of transition t, where it is the place that `lacking` tells.
-pub fn short(net: &[u8], shape: Net, state: &[u8], t: usize, p: usize) -> Short
-    requires framed { Framed net.now shape state.now }
-    requires t_bound { (t < byte net.now 6) × (p < shape.places) × (p ≡ lacking_place (net_of net.now) (stored net.now state.now) t) }
-    ensures { result ≡ short (net_of net.now) (stored net.now state.now) t }
+pub fn short(net: CheckedNet, state: &[u8], t: usize, p: usize) -> Short
+    requires is_state { IsState (net_of net.bytes.now) state.now }
+    requires t_bound { (t < net.shape.transitions) × (p < net.shape.places) × (p ≡ lacking_place (net_of net.bytes.now) (stored net.bytes.now state.now) t) }
+    ensures { result ≡ short (net_of net.entry.bytes.now) (stored net.entry.bytes.now state.now) t }
 {
-    let weight = words::wide(net[places::inputs_at(shape.places, t) + p]);
+    let weight = words::wide(weights::inputs(net, t)[p]);
     let lacks = weight - words::read16(state, places::mark_at(p));
     Short {
         place: p as u32,
@@ -43,9 +44,9 @@ pub fn short(net: &[u8], shape: Net, state: &[u8], t: usize, p: usize) -> Short
 }
 
 // No transition is enabled.
-pub fn no_start_owed(net: &[u8], shape: Net, state: &[u8]) -> bool
-    requires { Framed net.now shape state.now }
-    ensures { result ≡ has_no_start_owed (net_of net.now) (stored net.now state.now) }
+pub fn no_start_owed(net: CheckedNet, state: &[u8]) -> bool
+    requires { IsState (net_of net.bytes.now) state.now }
+    ensures { result ≡ has_no_start_owed (net_of net.entry.bytes.now) (stored net.entry.bytes.now state.now) }
 {
-    (0..shape.transitions).all(|t| !enabled(net, shape, state, t))
+    (0..net.shape.transitions).all(|t| !enabled(net, state, t))
 }

@@ -1,4 +1,5 @@
 -- `tick::move_on` meets its contract: the clock's block, moved by one place, is what the rules write.
+use Rattle.forms.proofs.CheckedNets.{framed}
 use native.Mathlib.Omega.{arith}
 use Rattle.moves.proofs.Ticking.{block-fits, aged}
 use Rattle.moves.proofs.tick.move_on.Goals as goal
@@ -7,12 +8,12 @@ pub shift_up-requires : goal.shift_up-requires
 shift_up-requires c =
     let a = c.args in
     let at = c.clock_at in
-    block-fits a.net.now a.shape a.state.now c.requires.framed at.result c.cells.result at.ensures c.cells.ensures.0
+    block-fits a.net.bytes.now a.net.shape a.state.now (framed c.args.net c.requires.is_state) at.result c.cells.result at.ensures c.cells.ensures.0
 
 pub returns : goal.returns
 returns c =
     let a = c.args in
     let at = c.clock_at in
     let n = c.cells in
-    aged a.net.now a.shape a.state.now c.requires.framed at.result n.result at.ensures n.ensures.0
+    aged a.net.bytes.now a.net.shape a.state.now (framed c.args.net c.requires.is_state) at.result n.result at.ensures n.ensures.0
     (λ k. omega (arith, c.slice_known-1.given k)) _ c.requires.state_value c.shift_up.ensures

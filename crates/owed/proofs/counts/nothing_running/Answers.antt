@@ -1,4 +1,5 @@
 -- `counts::nothing_running` meets its contract: the clock is one block of words.
+use Rattle.forms.proofs.CheckedNets.{framed}
 use mathlib.Core.Path.{◌∙◌}
 use native.Mathlib.Omega.{arith}
 use Rattle.forms.proofs.Inside.{clock-inside}
@@ -7,8 +8,8 @@ use Rattle.owed.proofs.counts.nothing_running.Goals as goal
 
 pub blank-requires : goal.blank-requires
 blank-requires c =
-    omega (arith, c.clock_at.ensures, c.cells.ensures.0, clock-inside c.args.net.now c.args.shape c.args.state.now c.requires)
+    omega (arith, c.clock_at.ensures, c.cells.ensures.0, clock-inside c.args.net.bytes.now c.args.net.shape c.args.state.now (framed c.args.net c.requires))
 
 pub returns : goal.returns
 returns c =
-    rw (c.clock_at.ensures, c.cells.ensures.0) at c.blank.ensures ∙ nothing-running-is c.args.net.now c.args.shape c.args.state.now c.requires
+    rw (c.clock_at.ensures, c.cells.ensures.0) at c.blank.ensures ∙ nothing-running-is c.args.net.bytes.now c.args.net.shape c.args.state.now (framed c.args.net c.requires)
