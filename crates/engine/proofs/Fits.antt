@@ -12,7 +12,7 @@ use Rattle.forms.specs.declared.fault.Fault.{Fault}
 use Rattle.forms.specs.Checked.{Checked}
 use Rattle.forms.specs.Stored.{net_of}
 use Rattle.forms.specs.Nets.{check_net}
-use Rattle.forms.specs.States.{check_state}
+use Rattle.forms.specs.States.{IsState, check_state}
 use Rattle.forms.specs.Logs.{IsLog, check_log}
 use Rattle.forms.specs.Frame.{HasShape, FramedNet, Framed}
 use Rattle.forms.proofs.Logs.{log-exact}
@@ -60,18 +60,19 @@ module _ (net : List ℕ) (s : Shape) where
       let g = fit_then (examine_state net state) (check_log log) e in
       (state-fits state g.0, (log-exact log).0 g.1)
 
--- so a call that examined them has them in their frame
+-- so a call that examined them has a state of the net, and a log
 module _ (bytes : Bor (List ℕ)) (net : CheckedNet) where
-  pub state-found : (state : List ℕ) → (examine_state bytes.now state ≡ Ok net.shape) × (net.bytes ≡ bytes) → Framed net.bytes.now net.shape state
-  state-found state (e, same) = rw same (state-fits bytes.now net.shape state e)
+  pub state-found : (state : List ℕ) → (examine_state bytes.now state ≡ Ok net.shape) × (net.bytes ≡ bytes) → IsState (net_of net.bytes.now) state
+  state-found state (e, same) = rw same (state-fits bytes.now net.shape state e).is_state
 
   pub known-as : (state : List ℕ) → (examine_state bytes.now state ≡ Ok net.shape) × (net.bytes ≡ bytes)
       → net.shape.transitions ≡ (net_of bytes.now).transitions
   known-as state found = (state-fits bytes.now net.shape state found.0).net_framed.has_shape.transitions_are
 
   pub log-found : (state log : List ℕ) → (examine_log bytes.now state log ≡ Ok net.shape) × (net.bytes ≡ bytes)
-      → Framed net.bytes.now net.shape state × IsLog log
-  log-found state log (e, same) = rw same (log-fits bytes.now net.shape state log e)
+      → IsState (net_of net.bytes.now) state × IsLog log
+  log-found state log (e, same) =
+      let fit = log-fits bytes.now net.shape state log e in (rw same fit.0.is_state, fit.1)
 
 -- HOW THEY FOLLOW ONE ANOTHER
 

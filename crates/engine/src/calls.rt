@@ -67,7 +67,7 @@ pub fn event(net: &[u8], state: &mut [u8], first: u8, second: u8, started: bool)
     match examine::examine_state(net, state) {
         Ok(net) => {
             let pair = Pair { first, second };
-            event::apply(net.bytes, net.shape, state, Step::given(started), pair).into()
+            event::apply(net, state, Step::given(started), pair).into()
         }
         Err(fault) => fault.into(),
     }
@@ -82,7 +82,7 @@ pub fn back(net: &[u8], state: &mut [u8], first: u8, second: u8, started: bool) 
     match examine::examine_state(net, state) {
         Ok(net) => {
             let pair = Pair { first, second };
-            event::back(net.bytes, net.shape, state, Step::given(started), pair).into()
+            event::back(net, state, Step::given(started), pair).into()
         }
         Err(fault) => fault.into(),
     }
@@ -102,7 +102,7 @@ pub fn degree(net: &[u8], state: &[u8], t: usize) -> DegreeTold
         Ok(net) => DegreeTold {
             number: 0,
             index: 0,
-            degree: degree::degree(net.bytes, net.shape, state, t),
+            degree: degree::degree(net, state, t),
         },
         Err(fault) => fault.into(),
     }
@@ -114,7 +114,7 @@ pub fn owed(net: &[u8], state: &[u8]) -> OwedTold
     ensures owed_promise { OwedPromise net.now state.now result }
 {
     match examine::examine_state(net, state) {
-        Ok(net) => report::report(net.bytes, net.shape, state).into(),
+        Ok(net) => report::report(net, state).into(),
         Err(fault) => fault.into(),
     }
 }
@@ -127,13 +127,7 @@ pub fn run(net: &[u8], state: &mut [u8], log: &[u8], started: bool) -> RunTold
     ensures run_promise { RunPromise net.now state.old log.now started result state.new }
 {
     match examine::examine_log(net, state, log) {
-        Ok(net) => run::run(
-            net.bytes,
-            net.shape,
-            state,
-            &log[places::EVENTS_AT..],
-            started,
-        ),
+        Ok(net) => run::run(net, state, &log[places::EVENTS_AT..], started),
         Err(fault) => fault.into(),
     }
 }
@@ -146,14 +140,7 @@ pub fn walk(net: &[u8], state: &mut [u8], log: &[u8], n: usize, started: bool) -
     ensures walk_promise { WalkPromise net.now state.old log.now n started result state.new }
 {
     match examine::examine_log(net, state, log) {
-        Ok(net) => walk::walk(
-            net.bytes,
-            net.shape,
-            state,
-            &log[places::EVENTS_AT..],
-            n,
-            started,
-        ),
+        Ok(net) => walk::walk(net, state, &log[places::EVENTS_AT..], n, started),
         Err(fault) => fault.into(),
     }
 }

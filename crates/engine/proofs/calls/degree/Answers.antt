@@ -2,7 +2,6 @@
 use Rattle.std.proofs.Common.{arith}
 use borrow.Author.Tests.{lt-ltb, le-ltb}
 use Rattle.forms.specs.Stored.{net_of}
-use Rattle.forms.proofs.States.{transitions-same}
 use Rattle.engine.specs.Calls.{degree_told}
 use Rattle.engine.proofs.Fits.{state-found, known-as}
 use Rattle.engine.proofs.Promised.{degree-promised}
@@ -18,8 +17,7 @@ returns-in-Ok c =
 
 pub degree-requires : goal.degree-requires
 degree-requires c =
-    let f = state-found _ c.in-Ok.net _ c.in-Ok.ensures in
-    record { framed = f; t_bound = omega (arith, transitions-same _ _ f.net_framed) }
+    record { is_state = state-found _ c.in-Ok.net _ c.in-Ok.ensures; t_bound = omega arith }
 
 pub returns-in-Ok-2 : goal.returns-in-Ok-2
 unfolding degree_told

@@ -8,7 +8,7 @@ use Rattle.engine.proofs.calls.event.Goals as goal
 
 pub apply-requires : goal.apply-requires
 apply-requires c = record {
-  framed = state-found _ c.in-Ok.net _ c.in-Ok.ensures;
+  is_state = state-found _ c.in-Ok.net _ c.in-Ok.ensures;
   known = known-first _ _ c.args.started c.given.ensures;
 }
 
