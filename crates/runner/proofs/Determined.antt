@@ -66,10 +66,10 @@ write-head-leaves κs args x y s s' p q = p ∙ sym q
 pub build-determined : Determined 3 build-kinds.ps build-kinds.r build.Learnt
 build-determined κs args x y s s' p q = p.0 ∙ sym q.0
 
-pub build-leaves : LeavesOne 3 build-kinds.ps build-kinds.r build.Learnt (λ κs s. s.1.1.0.now)
+pub build-leaves : LeavesOne 3 build-kinds.ps build-kinds.r build.Learnt (λ κs s. s.1.0.now)
 build-leaves κs args x y s s' p q = p.1.0 ∙ sym q.1.0
 
-pub build-leaves-log : LeavesOne 3 build-kinds.ps build-kinds.r build.Learnt (λ κs s. s.1.1.1.0.now)
+pub build-leaves-log : LeavesOne 3 build-kinds.ps build-kinds.r build.Learnt (λ κs s. s.1.1.0.now)
 build-leaves-log κs args x y s s' p q = p.1.1 ∙ sym q.1.1
 
 pub told-of-determined : Determined 0 told-of-kinds.ps told-of-kinds.r told_of.Learnt

@@ -1,4 +1,5 @@
 -- `weigh::weigh` meets its contract: 31 comes first.
+use Rattle.forms.proofs.CheckedNets.{framed}
 use mathlib.Core.Path.{◌≡◌, sym, ap, ◌∙◌}
 use mathlib.Core.List.{List}
 use Prim.Native.Nat.{ℕ, ◌*◌}
@@ -12,9 +13,9 @@ use Rattle.balance.proofs.weigh.weigh.Goals as goal
 twice : (net : List ℕ) (shape : Shape) (b : List ℕ) → Framed net shape b → 2 * shape.places ≡ 2 * (net_of net).places
 twice net shape b f = ap (λ (x : ℕ). 2 * x) f.net_framed.has_shape.places_are
 
-pub returns-then-weights-shape : goal.returns-then-weights-shape
-returns-then-weights-shape c = sym (not-by _ _ _ (λ is. c.if-weights-shape.true (is ∙ sym (twice _ _ _ c.requires))))
+pub returns-then-weights-net : goal.returns-then-weights-net
+returns-then-weights-net c = sym (not-by _ _ _ (λ is. c.if-weights-net.true (is ∙ sym (twice _ _ _ (framed c.args.net c.requires)))))
 
 pub returns : goal.returns
 returns c =
-    c.weigh_all.ensures ∙ sym (by_weights _ _ _ (c.if-weights-shape.false ∙ twice _ _ _ c.requires))
+    c.weigh_all.ensures ∙ sym (by_weights _ _ _ (c.if-weights-net.false ∙ twice _ _ _ (framed c.args.net c.requires)))

@@ -1,21 +1,21 @@
 -- `choose::choose` meets its contract: what it finds is what the rule chooses.
+use Rattle.forms.proofs.CheckedNets.{framed_net}
 use Rattle.std.proofs.Common.{sym, ◌∙◌, arith}
-use Rattle.forms.proofs.States.{transitions-same}
 use Rattle.runner.proofs.Clearing.{known-from}
 use Rattle.runner.proofs.Chosen.{chosen-end, chosen-tick-known, chosen-start, chosen-rest, chosen-tick}
 use Rattle.runner.proofs.choose.choose.Goals as goal
 
 pub lfd-requires : goal.lfd-requires
 lfd-requires c =
-    let f = c.requires.framed.net_framed in
-    (f.is_net, omega (arith, known-from c.in-Some.ensures, transitions-same _ _ f, f.has_shape.transitions_are))
+    let f = (framed_net c.args.net) in
+    omega (arith, known-from c.in-Some.ensures, f.has_shape.transitions_are)
 
 pub returns-in-Some : goal.returns-in-Some
 returns-in-Some c = sym (rw (← c.lfd.ensures.0) at (chosen-end c.requires.clear c.in-Some.ensures))
 
-pub returns-then-clear-shape : goal.returns-then-clear-shape
-returns-then-clear-shape c =
-    sym (chosen-tick-known c.requires.clear c.in_default.ensures (c.if-clear-shape.true ∙ c.requires.framed.net_framed.has_shape.transitions_are))
+pub returns-then-clear-net : goal.returns-then-clear-net
+returns-then-clear-net c =
+    sym (chosen-tick-known c.requires.clear c.in_default.ensures (c.if-clear-net.true ∙ (framed_net c.args.net).has_shape.transitions_are))
 
 pub returns-in-Some-next_start : goal.returns-in-Some-next_start
 returns-in-Some-next_start c =
