@@ -29,7 +29,7 @@ fn arcs(net: &[u8], from: usize, weights: &[u8], places: usize) -> usize
     ensures { (result ≡ weighed places (weight_at weights.now) (λ p. byte net.now (from + p))) × (result ≤ places * arc_most) }
 {
     (0..places)
-        .map(|p| words::read16(weights, 2 * p) * words::wide(net[from + p]))
+        .map(|p| words::read16(weights, 2 * p) * usize::from(net[from + p]))
         .sum()
 }
 
@@ -52,6 +52,7 @@ fn words_sum(s: &[u8], at: usize, n: usize) -> usize
 }
 
 // The state, weighed transition by transition; the first that is unbalanced ends it.
+#[tactic(auto, using(forms::proofs::CheckedNets::limits))]
 fn weigh_all(net: CheckedNet, state: &[u8], weights: &[u8]) -> Result<u64, Imbalance>
     requires { IsState (net_of net.bytes.now) state.now × (2 * net.shape.places ≤ length weights.now) }
     ensures { result ≡ weighing (net_of net.entry.bytes.now) (weight_at weights.now) (stored net.entry.bytes.now state.now) }
@@ -71,6 +72,7 @@ fn weigh_all(net: CheckedNet, state: &[u8], weights: &[u8]) -> Result<u64, Imbal
 }
 
 // The state weighed by weights of two bytes for each place.
+#[tactic(auto, using(std::proofs::lemmas::Bool::Decides::nat_tests), unfolding(crate::specs::Told::checked_weighing))]
 pub fn weigh(net: CheckedNet, state: &[u8], weights: &[u8]) -> Result<u64, Imbalance>
     requires { IsState (net_of net.bytes.now) state.now }
     ensures { result ≡ checked_weighing (net_of net.entry.bytes.now) weights.now (stored net.entry.bytes.now state.now) }
