@@ -1,19 +1,21 @@
--- `(0..n).all(..)`, where the closure answers a test: it is the model's test of each number below n.
+-- `(0..n).all(..)`, where the closure answers a test: it is the model's test of each number below n. And `(0..n).fold(..)`.
 -- Assumes nothing.
 use mathlib.Core.Path.{◌≡◌, sym, ap, ◌∙◌}
 use mathlib.Core.Bool.{Bool, true, false}
 use mathlib.Core.List.{List}
-use Prim.Native.Nat.{ℕ, ◌<◌}
+use Prim.Native.Nat.{ℕ, zero, suc, ◌+◌, ◌<◌}
+use native.Mathlib.Numerals.{add-one}
 use native.Mathlib.Omega.{arith}
 use lib.ListN.{length, get_or}
 use denote.Param.Members.{Mut}
 use Rattle.std.specs.Bool.{MatchBool}
 use Rattle.std.specs.Fn.{Called}
-use Rattle.std.specs.Iterator.{ChecksAll}
-use Rattle.std.specs.List.{range_with_len, AllWithin, HoldsAt}
+use Rattle.std.specs.Iterator.{ChecksAll, FoldsItems}
+use Rattle.std.specs.List.{range_with_len, AllWithin, HoldsAt, fold}
 use Rattle.std.specs.declared.ops.Range.{Range}
 use Rattle.std.proofs.iter.Yields.{nat_range_steps}
 use Rattle.std.proofs.lemmas.Iterator.{cases_from_all, YieldsList-from_range}
+use Rattle.std.proofs.lemmas.Iterator.Consumers.{fold_from_yields_List}
 use Rattle.std.proofs.lemmas.List.FromFn.{length-range_with_len, get_or-range_with_len}
 use Rattle.model.specs.Tab.{all}
 use Rattle.model.proofs.Alls.{all-stop}
@@ -46,3 +48,18 @@ module _ (test : ℕ → Bool) (n : ℕ) where
       → r ≡ all n test
   all-below {u = u} {f = f} {r = r} m d e same says =
       by_cases r (cases_from_all u f r (Answers true) (Answers false) d (YieldsList-from_range 0 n n (e ∙ ap (λ (k : ℕ). record { start = 0; end = k }) same) (omega arith)) (λ x. says x true) (λ x q k. (says x false q k).1))
+
+-- `acc i` is what the numbers below i make of `acc 0`, each by h
+module _ {B : Type 0} (h : B → ℕ → B) (acc : ℕ → B) (n : ℕ) (turn : (i : ℕ) → i < n → acc (suc i) ≡ h (acc i) i) where
+  fold-from : (k i : ℕ) → i + k ≡ n → fold h (acc i) (range_with_len i k) ≡ acc n
+  fold-from zero i e = let here : i ≡ n = omega arith in ap acc here
+  fold-from (suc k) i e =
+      ap (λ (a : B). fold h a (range_with_len (i + 1) k)) (sym (turn i (omega arith))) ∙ rw (add-one i) (fold-from k (suc i) (omega arith))
+
+  pub fold-below : {F : Type 0} {g : Mut F (B × (ℕ × Unit {0})) B} {s : Range ℕ} {f : F} {r : B} (m : ℕ)
+      → FoldsItems nat_range_steps g s f (acc 0) r → s ≡ record { start = 0; end = m } → m ≡ n
+      → ((a : B) (x : ℕ) (b : B) (q : F) → Called g f (a, (x, tt)) b q → (q ≡ f) × (b ≡ h a x))
+      → r ≡ acc n
+  fold-below {g = g} {f = f} {r = r} m d e same says =
+      fold_from_yields_List g h (acc 0) r d (YieldsList-from_range 0 n n (e ∙ ap (λ (k : ℕ). record { start = 0; end = k }) same) (omega arith)) says
+      ∙ fold-from n 0 (omega arith)

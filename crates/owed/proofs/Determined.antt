@@ -1,8 +1,12 @@
 -- Each public function's promise determines its answer: two answers that it permits for the same arguments are equal. None is lent
 -- bytes that it may change. What is cited is the promise itself, as a caller learns it.
 -- Assumes nothing.
-use mathlib.Core.Path.{sym, ◌∙◌}
+use mathlib.Core.Path.{◌≡◌, refl, sym, ap, ◌∙◌}
+use Prim.Native.Nat.{ℕ}
+use native.Mathlib.Omega.{arith}
+use Rattle.std.proofs.Common.{Option, Some, None}
 use Rattle.model.proofs.Determined.{Determined}
+use Rattle.owed.specs.Marks.{FoundBelow}
 use Rattle.owed.proofs.bits.with_bit.Reads as with-bit
 use Rattle.owed.proofs.bits.with_bit.Kinds as with-bit-kinds
 use Rattle.owed.proofs.bits.has_bit.Reads as has-bit
@@ -42,6 +46,13 @@ use Rattle.owed.proofs.report.OwedSet.of.Kinds as owed-set-of-kinds
 use Rattle.owed.proofs.report.report.Reads as report
 use Rattle.owed.proofs.report.report.Kinds as report-kinds
 
+-- what is found is one
+found-once : (n p : ℕ) (r s : Option ℕ) → FoundBelow n p r → FoundBelow n p s → r ≡ s
+found-once n p None None f g = refl
+found-once n p None (Some y) f g = absurd (omega arith)
+found-once n p (Some x) None f g = absurd (omega arith)
+found-once n p (Some x) (Some y) f g = ap Some (f.1 ∙ sym g.1)
+
 pub with-bit-determined : Determined 0 with-bit-kinds.ps with-bit-kinds.r with-bit.Learnt
 with-bit-determined κs args x y s s' p q = p ∙ sym q
 
@@ -73,13 +84,13 @@ pub degree-determined : Determined 2 degree-kinds.ps degree-kinds.r degree.Learn
 degree-determined κs args x y s s' p q = p ∙ sym q
 
 pub short-place-determined : Determined 2 short-place-kinds.ps short-place-kinds.r short-place.Learnt
-short-place-determined κs args x y s s' p q = p ∙ sym q
+short-place-determined κs args x y s s' p q = found-once _ _ x y p q
 
 pub pass-zero-determined : Determined 1 pass-zero-kinds.ps pass-zero-kinds.r pass-zero.Learnt
 pass-zero-determined κs args x y s s' p q = p ∙ sym q
 
 pub lacking-determined : Determined 2 lacking-kinds.ps lacking-kinds.r lacking.Learnt
-lacking-determined κs args x y s s' p q = p ∙ sym q
+lacking-determined κs args x y s s' p q = found-once _ _ x y p q
 
 pub enabled-determined : Determined 2 enabled-kinds.ps enabled-kinds.r enabled.Learnt
 enabled-determined κs args x y s s' p q = p ∙ sym q

@@ -15,10 +15,7 @@ use model::net::Net;
 fn times(weight: usize, marking: usize) -> usize
     ensures { result ≡ times_of weight marking }
 {
-    if weight == 0 {
-        return Net::MAX_TOKENS;
-    }
-    marking / weight
+    marking.checked_div(weight).unwrap_or(Net::MAX_TOKENS)
 }
 
 // The least of these over so many places.
@@ -26,19 +23,10 @@ fn least_times(net: &[u8], from: usize, state: &[u8], places: usize) -> usize
     requires { (places < 256) × (from + places ≤ length net.now) × (mark_at places ≤ length state.now) }
     ensures { result ≡ least token_limit places (λ p. times_of (byte net.now (from + p)) (word state.now (mark_at p))) }
 {
-    let mut fewest = Net::MAX_TOKENS;
-    let mut p = 0;
-    while p < places {
-        let here = times(
-            words::wide(net[from + p]),
-            words::read16(state, places::mark_at(p)),
-        );
-        if here < fewest {
-            fewest = here;
-        }
-        p += 1;
-    }
-    fewest
+    (0..places).fold(Net::MAX_TOKENS, |fewest, p| {
+        let marking = words::read16(state, places::mark_at(p));
+        fewest.min(times(words::wide(net[from + p]), marking))
+    })
 }
 
 // How many times transition t is enabled.

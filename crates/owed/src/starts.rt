@@ -4,17 +4,18 @@ ghost use Rattle.model.specs.Rules.{lacking_place, is_enabled, short, has_no_sta
 ghost use Rattle.forms.specs.Word.{byte};
 ghost use Rattle.forms.specs.Stored.{net_of, stored};
 ghost use Rattle.forms.specs.Frame.{Framed};
+ghost use Rattle.owed.specs.Marks.{FoundBelow};
 
 use crate::marks;
 use forms::{places, words};
 use model::answer::Short;
 use model::net::Net;
 
-// The lowest place that lacks tokens for a start of transition t, or the number of places where none does.
-pub fn lacking(net: &[u8], shape: Net, state: &[u8], t: usize) -> usize
+// The lowest place that lacks tokens for a start of transition t, or none.
+pub fn lacking(net: &[u8], shape: Net, state: &[u8], t: usize) -> Option<usize>
     requires framed { Framed net.now shape state.now }
     requires t_bound { t < byte net.now 6 }
-    ensures { result ≡ lacking_place (net_of net.now) (stored net.now state.now) t }
+    ensures { FoundBelow shape.places (lacking_place (net_of net.now) (stored net.now state.now) t) result }
 {
     marks::short_place(net, places::inputs_at(shape.places, t), state, shape.places)
 }
@@ -25,7 +26,7 @@ pub fn enabled(net: &[u8], shape: Net, state: &[u8], t: usize) -> bool
     requires t_bound { t < byte net.now 6 }
     ensures { result ≡ is_enabled (net_of net.now) (stored net.now state.now) t }
 {
-    lacking(net, shape, state, t) == shape.places
+    lacking(net, shape, state, t).is_none()
 }
 
 // What place p lacks for a start of transition t, where it is the place that `lacking` tells.

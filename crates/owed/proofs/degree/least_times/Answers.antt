@@ -1,21 +1,16 @@
--- `degree::least_times` meets its contract. The loop keeps that `fewest` is the least over the places passed.
-use mathlib.Core.Path.{◌≡◌, refl, ◌∙◌}
-use Prim.Native.Nat.{min}
-use native.Mathlib.Omega.{arith}
+-- `degree::least_times` meets its contract: each turn takes the lesser of what there is and how many times the weight of a place goes in.
+use Rattle.std.proofs.Common.{ℕ, ◌+◌, min, refl, rules, tests, arith}
 use Rattle.model.specs.Tab.{least}
 use Rattle.model.specs.Limits.{token_limit}
-use Rattle.owed.proofs.ModelTests.{least-turn}
-use Rattle.owed.proofs.degree.least_times.Invariants.{share}
+use Rattle.model.specs.Rules.{times}
+use Rattle.model.proofs.Ranges.{fold-below}
+use Rattle.forms.specs.Word.{byte, word}
+use Rattle.forms.specs.Places.{mark_at}
 use Rattle.owed.proofs.degree.least_times.Goals as goal
-use Rattle.owed.proofs.degree.least_times.Goals.{then-here-fewest, else-here-fewest}
 
-pub loop-p-init : goal.loop-p-init
+pub returns : goal.returns
 unfolding least
-loop-p-init c = (omega arith, refl)
-
-pub loop-p-preserved : goal.loop-p-preserved
-loop-p-preserved c =
-    let a = c.args in
-    let here : c.times-here.result ≡ share a.net.now a.from a.state.now c.loop-p.p = c.times-here.ensures ∙ rw (c.read16.ensures.0, c.mark_at.ensures, c.wide.ensures.0) in
-    let fewer : c.if-here-fewest.fewest ≡ min c.times-here.result c.loop-p.fewest = elim c.if-here-fewest.branch [ then-here-fewest w ↦ omega arith | else-here-fewest w ↦ omega arith ] in
-    (omega arith, least-turn token_limit (share a.net.now a.from a.state.now) c.loop-p.p c.loop-p.fewest c.times-here.result c.if-here-fewest.fewest c.loop-p.invariant.1 here fewer)
+returns c =
+    let share : ℕ → ℕ = λ p. times (byte c.args.net.now (c.args.from + p)) (word c.args.state.now (mark_at p)) in
+    fold-below (λ fewest p. min fewest (share p)) (λ n. least token_limit n share) _ (λ i l. omega arith) _ c.fold.ensures.ran refl refl
+    (λ a x b q k. search (rules, tests))

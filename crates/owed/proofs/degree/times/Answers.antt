@@ -1,23 +1,16 @@
 -- `degree::times` meets its contract, by the definition.
-use mathlib.Core.Path.{◌≡◌, refl}
-use Prim.Native.Nat.{ℕ, zero, suc, ◌/◌}
-use native.Mathlib.Omega.{arith}
+use Rattle.std.proofs.Common.{◌≡◌, ◌∙◌, ℕ, zero, suc, ◌<◌, ◌/◌, refl, arith, Option, Some, None}
+use Rattle.std.specs.Option.{SomeIff, unwrap_or}
 use Rattle.model.specs.Limits.{token_limit}
 use Rattle.model.specs.Rules.{times as times_of}
 use Rattle.owed.proofs.degree.times.Goals as goal
 
-none : (w m : ℕ) → w ≡ 0 → token_limit ≡ times_of w m
+by_weight : (w m : ℕ) (o : Option ℕ) → SomeIff o (0 < w) (m / w) → unwrap_or o token_limit ≡ times_of w m
 unfolding times_of
-none zero m e = refl
-none (suc w) m e = absurd (omega arith)
-
-some : (w m : ℕ) → ¬ (w ≡ 0) → m / w ≡ times_of w m
-unfolding times_of
-some zero m f = absurd (f refl)
-some (suc w) m f = refl
-
-pub returns-then-weight-eq0 : goal.returns-then-weight-eq0
-returns-then-weight-eq0 c = none c.args.weight c.args.marking c.if-weight-eq0.true
+by_weight zero m None f = refl
+by_weight (suc w) m None f = absurd (f (omega arith))
+by_weight zero m (Some x) f = absurd (omega arith)
+by_weight (suc w) m (Some x) f = f.1
 
 pub returns : goal.returns
-returns c = some c.args.weight c.args.marking c.if-weight-eq0.false
+returns c = c.unwrap_or.ensures ∙ by_weight c.args.weight c.args.marking c.checked_div.result c.checked_div.ensures

@@ -1,5 +1,5 @@
 -- `marks::short_place` meets its contract. The loop keeps that no place passed is short; one whose weight is 0 is not.
-use mathlib.Core.Path.{◌≡◌, ap, ◌∙◌}
+use mathlib.Core.Path.{◌≡◌, sym, ap, ◌∙◌}
 use mathlib.Core.Bool.{not}
 use Prim.Native.Nat.{ℕ, ◌+◌, ◌<◌, ◌≤◌}
 use native.Mathlib.Omega.{arith}
@@ -45,7 +45,7 @@ returns-then-read16-weight c =
     let a = c.args in
     let p = c.loop-p.p in
     let less : word a.state.now (mark_at p) < byte a.net.now (a.from + p) = omega (arith, marked) in
-    lowest-found (is_short a.net.now a.from a.state.now) a.places p (omega arith) (lt-ltb _ _ less) c.loop-p.invariant.1
+    (omega arith, lowest-found (is_short a.net.now a.from a.state.now) a.places p (omega arith) (lt-ltb _ _ less) c.loop-p.invariant.1)
 
 pub loop-p-preserved : goal.loop-p-preserved
 loop-p-preserved c =
@@ -60,4 +60,4 @@ pub returns : goal.returns
 unfolding short_place
 returns c =
     let a = c.args in
-    lowest_end (is_short a.net.now a.from a.state.now) a.places c.loop-p.p (omega arith) (omega arith) c.loop-p.invariant.1
+    sym (lowest_end (is_short a.net.now a.from a.state.now) a.places c.loop-p.p (omega arith) (omega arith) c.loop-p.invariant.1)

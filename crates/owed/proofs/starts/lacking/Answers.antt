@@ -1,5 +1,4 @@
 -- `starts::lacking` meets its contract: the weights looked at are the transition's.
-use mathlib.Core.Path.{◌∙◌}
 use Rattle.forms.proofs.States.{places_same}
 use Rattle.forms.proofs.Inside.{inputs-inside}
 use Rattle.owed.proofs.ModelTests.{lacking-is, inputs-right}
@@ -12,6 +11,5 @@ short_place-requires c =
 pub returns : goal.returns
 returns c =
     let a = c.args in
-    c.short_place.ensures
-    ∙ lacking-is a.net.now a.shape a.state.now c.requires.framed c.inputs_at.result a.t
-    (inputs-right a.net.now a.t a.shape.places c.inputs_at.result (places_same a.net.now a.shape c.requires.framed.net_framed) c.inputs_at.ensures)
+    rw (lacking-is a.net.now a.shape a.state.now c.requires.framed c.inputs_at.result a.t
+    (inputs-right a.net.now a.t a.shape.places c.inputs_at.result (places_same a.net.now a.shape c.requires.framed.net_framed) c.inputs_at.ensures)) at c.short_place.ensures
