@@ -3,13 +3,14 @@
 use mathlib.Core.Path.{◌≡◌, refl, sym, ap, ◌∙◌}
 use mathlib.Core.Bool.{Bool, true, false, cond, not}
 use mathlib.Core.List.{List}
-use Prim.Native.Nat.{ℕ, zero, suc, ◌+◌, ◌-◌, ◌*◌, ◌/◌, ◌%◌, ◌<◌, ◌≤◌, min}
+use Prim.Native.Nat.{ℕ, zero, suc, ◌+◌, ◌-◌, ◌*◌, ◌/◌, ◌%◌, ◌<◌, ◌≤◌}
 use native.Mathlib.Nat.{div-lt_iff_lt-mul, div-add-mod', mod-lt, mul-le-mul_right}
-use native.Mathlib.Numerals.{add-one}
 use native.Mathlib.Omega.{arith}
 use lib.Dec.{T, eqb, leb, ltb}
+use lib.ListN.{length}
 use lib.Count.{ones, count_trailing_zeros}
 use borrow.Author.Tests.{lt-ltb}
+use Rattle.std.specs.Prelude.{Option}
 use Rattle.model.specs.declared.net.Net.{Net as Shape}
 use Rattle.model.specs.declared.answer.Standing.TheVariants as standing
 use Rattle.model.specs.Tab.{Tells, all, least, lowest, how_many}
@@ -30,7 +31,9 @@ use Rattle.forms.specs.Stored.{net_of, stored}
 use Rattle.forms.specs.Frame.{Framed}
 use Rattle.forms.proofs.Stored.{count_at_lem}
 use Rattle.forms.proofs.Inside.{mark-stands, known-model}
-use Rattle.owed.specs.Marks.{is_short, short_place}
+use Rattle.owed.specs.Marks.{FoundBelow, is_short, short_place}
+use Rattle.owed.specs.Weights.{AreWeights}
+use Rattle.owed.proofs.Passing.{same}
 use Rattle.owed.specs.Bits.{word_of}
 use Rattle.owed.specs.Reported.{set_of}
 use Rattle.owed.proofs.OwedWords.{word_ones, word_low, word_none, word-zero}
@@ -39,12 +42,6 @@ least-cong : (top n : ℕ) (f g : ℕ → ℕ) → ((i : ℕ) → i < n → f i 
 unfolding least
 least-cong top zero f g same = refl
 least-cong top (suc n) f g same = rw (same n (omega arith), least-cong top n f g (λ i h. same i (omega arith)))
-
--- a turn of the loop that looks for the least
-pub least-turn : (top : ℕ) (f : ℕ → ℕ) (i best here next : ℕ) → best ≡ least top i f → here ≡ f i → next ≡ min here best
-    → next ≡ least top (i + 1) f
-unfolding least
-least-turn top f i best here next e g h = rw (h, g, e, add-one)
 
 -- A SEARCH FOR THE LOWEST
 
@@ -90,14 +87,15 @@ lowest-cong f g (suc n) none h = rw (h n (omega arith)) (lowest-cong f g n (cond
 
 -- THE MARKING
 
-module _ (net : List ℕ) (shape : Shape) (b : List ℕ) (f : Framed net shape b) (from : ℕ) where
+-- ws are the weights w of the places
+module _ (net : List ℕ) (shape : Shape) (b : List ℕ) (f : Framed net shape b) (w : ℕ → ℕ) (ws : List ℕ) (are : AreWeights shape.places w ws) where
   abbrev has : ℕ → Bool
-  has p = not (is_short net from b p)
+  has p = not (is_short ws 0 b p)
 
   -- what `not short` says
-  has-tells : (p : ℕ) → Tells (has p) (byte net (from + p) ≤ word b (mark_at p))
+  has-tells : (p : ℕ) → Tells (has p) (byte ws (0 + p) ≤ word b (mark_at p))
   has-tells p =
-      let t = not-tells (ltb-tells (word b (mark_at p)) (byte net (from + p))) in
+      let t = not-tells (ltb-tells (word b (mark_at p)) (byte ws (0 + p))) in
       record { sound = λ x. enough (t.sound x); complete = λ h. t.complete (λ l. omega arith) }
     where
       enough : {m w : ℕ} → ¬ (m < w) → w ≤ m
@@ -106,48 +104,58 @@ module _ (net : List ℕ) (shape : Shape) (b : List ℕ) (f : Framed net shape b
   abbrev places_are : shape.places ≡ (net_of net).places
   places_are = f.net_framed.has_shape.places_are
 
-  module _ (w : ℕ → ℕ) (right : (p : ℕ) → byte net (from + p) ≡ w p) where
-    pub covers-is : all shape.places has ≡ does_cover (net_of net) (stored net b) w
-    covers-is =
-        tells-same (all-tells shape.places has-tells) (covers-tells (net_of net) (stored net b) w)
-        (λ g p l. let h : p < shape.places = omega (arith, places_are) in omega (arith, g p h, mark-stands net shape b f p h, right p))
-        (λ g p l. omega (arith, g p (omega (arith, places_are)), mark-stands net shape b f p l, right p))
+  right : (p : ℕ) → p < shape.places → byte ws (0 + p) ≡ w p
+  right p l = same ws p (0 + p) p (omega arith) ∙ are.1 p l
 
-  -- the place that the bytes show to be short is the one that lacks tokens for a start of t
-  pub lacking-is : (t : ℕ) → ((p : ℕ) → byte net (from + p) ≡ (net_of net).takes t p)
-      → short_place net from b shape.places ≡ lacking_place (net_of net) (stored net b) t
+  pub covers-is : all shape.places has ≡ does_cover (net_of net) (stored net b) w
+  covers-is =
+      tells-same (all-tells shape.places has-tells) (covers-tells (net_of net) (stored net b) w)
+      (λ g p l. let h : p < shape.places = omega (arith, places_are) in omega (arith, g p h, mark-stands net shape b f p h, right p h))
+      (λ g p l. omega (arith, g p (omega (arith, places_are)), mark-stands net shape b f p l, right p l))
+
+-- where they are those that a start of t takes
+module _ (net : List ℕ) (shape : Shape) (b : List ℕ) (f : Framed net shape b) (t : ℕ) (ws : List ℕ) (are : AreWeights shape.places ((net_of net).takes t) ws) where
+  taken : (p : ℕ) → p < shape.places → byte ws p ≡ (net_of net).takes t p
+  taken = are.1
+
+  -- the place that the bytes show to be short is the one that lacks tokens for it
+  pub lacking-is : short_place ws 0 b shape.places ≡ lacking_place (net_of net) (stored net b) t
   unfolding short_place lacking_place
-  lacking-is t right =
+  lacking-is =
       let lacks : ℕ → Bool = λ p. ltb (tokens (stored net b) p) ((net_of net).takes t p) in
-      lowest-cong (is_short net from b) lacks shape.places shape.places (λ p h. rw (right p, mark-stands net shape b f p h))
-      ∙ ap (λ (n : ℕ). lowest n n lacks) places_are
+      lowest-cong (is_short ws 0 b) lacks shape.places shape.places
+      (λ p h. rw (same ws p (0 + p) p (omega arith), taken p h, mark-stands net shape b f p h))
+      ∙ ap (λ (n : ℕ). lowest n n lacks) f.net_framed.has_shape.places_are
+
+  pub found-lacking : (r : Option ℕ) → FoundBelow (length ws) (short_place ws 0 b (length ws)) r → FoundBelow shape.places (lacking_place (net_of net) (stored net b) t) r
+  found-lacking r found = rw lacking-is at (rw are.0 at found)
 
   -- and it lacks its weight less its tokens
-  pub short_is : (t : ℕ) → ((p : ℕ) → byte net (from + p) ≡ (net_of net).takes t p)
-      → (p : ℕ) → p < shape.places → p ≡ lacking_place (net_of net) (stored net b) t
-      → (w m : ℕ) → w ≡ byte net (from + p) → m ≡ word b (mark_at p)
+  pub short_is : (p : ℕ) → p < shape.places → p ≡ lacking_place (net_of net) (stored net b) t
+      → (w m at : ℕ) → w ≡ byte ws p → m ≡ word b at → at ≡ mark_at p
       → (m < w) × (record { place = p; lacks = w - m } ≡ short (net_of net) (stored net b) t)
   unfolding short
-  short_is t right p l e w m weight marking =
-      let stands = mark-stands net shape b f p l in (
-        omega (arith, stands, right p, falls (lacking-lowest (net_of net) (stored net b) t) e),
-        rw (weight, marking, stands, right p, ← e),
+  short_is p l e w m at weight marking place =
+      let stands = ap (word b) place ∙ mark-stands net shape b f p l in (
+        omega (arith, stands, taken p l, falls (lacking-lowest (net_of net) (stored net b) t) e),
+        rw (weight, marking, stands, taken p l, ← e),
       )
     where
       falls : {q : ℕ} → Lowest (λ q. tokens (stored net b) q < (net_of net).takes t q) (net_of net).places (net_of net).places q
           → p ≡ q → tokens (stored net b) p < (net_of net).takes t p
       falls (Lowest.found b here below) same = rw same here
-      falls (Lowest.empty none) same = absurd (omega (arith, places_are))
+      falls (Lowest.empty none) same = absurd (omega (arith, f.net_framed.has_shape.places_are))
 
   -- the degree is the least of the shares
-  pub degree_is : (t : ℕ) → ((p : ℕ) → byte net (from + p) ≡ (net_of net).takes t p)
-      → least token_limit shape.places (λ p. times (byte net (from + p)) (word b (mark_at p))) ≡ degree (net_of net) (stored net b) t
+  pub degree_is : least token_limit (length ws) (λ p. times (byte ws p) (word b (mark_at p))) ≡ degree (net_of net) (stored net b) t
   unfolding degree
-  degree_is t right =
+  degree_is =
       let share : ℕ → ℕ = λ p. times ((net_of net).takes t p) (tokens (stored net b) p) in
-      least-cong token_limit shape.places (λ p. times (byte net (from + p)) (word b (mark_at p))) share
-      (λ p h. rw (right p, mark-stands net shape b f p h))
-      ∙ ap (λ (n : ℕ). least token_limit n share) places_are
+      rw are.0 (
+      least-cong token_limit shape.places (λ p. times (byte ws p) (word b (mark_at p))) share
+      (λ p h. rw (taken p h, mark-stands net shape b f p h))
+      ∙ ap (λ (n : ℕ). least token_limit n share) f.net_framed.has_shape.places_are
+      )
 
 -- where the weights of a transition stand
 pub inputs-right : (net : List ℕ) (t P from : ℕ) → P ≡ byte net 5 → from ≡ row_at P t + 2 → (p : ℕ) → byte net (from + p) ≡ (net_of net).takes t p

@@ -1,6 +1,6 @@
 -- Weights that are 0 passed over: what is skipped is 0, and so a search or a loop that writes loses nothing by it.
 -- Assumes nothing.
-use mathlib.Core.Path.{◌≡◌, refl, sym}
+use mathlib.Core.Path.{◌≡◌, refl, sym, ap, ◌∙◌}
 use mathlib.Core.Logic.{by_cases}
 use mathlib.Core.Bool.{Bool, true, false, ◌&&◌, cond}
 use mathlib.Core.List.{List}
@@ -9,16 +9,20 @@ use native.Mathlib.Decide.{ℕ_discrete}
 use native.Mathlib.Omega.{arith}
 use lib.Dec.{T, leb}
 use borrow.Author.Tests.{eq-eqb, ne_eqb, le-leb, lt-leb}
+use lib.ListN.{length, take, drop, length-take, length-drop}
+use lib.Seq.{get_or-take, get_or-drop}
+use Rattle.std.specs.Array.{IsFirstChunk}
+use Rattle.std.specs.List.{slice_index}
 use Rattle.model.specs.Tab.{Tells, all}
 use Rattle.model.proofs.Tab.{all-tells, below_suc, below-or-past}
 use Rattle.model.proofs.Tests.{told-true}
 use Rattle.model.proofs.Alls.{holds}
 use Rattle.forms.specs.Word.{byte}
-use Rattle.owed.specs.Weights.{two_at, four_at, eight_at, pass_zero}
+use Rattle.owed.specs.Weights.{AreZero, two_at, four_at, eight_at, pass_zero}
 
 -- eight bytes are 0 where the number that they make is
 module _ (s : List ℕ) (at : ℕ) where
-  same : (i j : ℕ) → i ≡ j → byte s i ≡ byte s j
+  pub same : (i j : ℕ) → i ≡ j → byte s i ≡ byte s j
   same i j e = rw e
 
   number : eight_at s at
@@ -47,6 +51,38 @@ module _ (s : List ℕ) (at : ℕ) where
       let z5 = below_suc A 5 (omega (arith, number)) z4 in
       let z6 = below_suc A 6 (omega (arith, number)) z5 in
       below_suc A 7 (omega (arith, number)) z6
+
+-- eight bytes of a slice from p on, and the number that they make
+module _ (s eight : List ℕ) (p : ℕ) (c : IsFirstChunk (take (length s - p) (drop p s)) eight 8) where
+  pub chunk-fits : p < length s → p + 8 ≤ length s
+  chunk-fits l = omega (arith, c.enough, length-take (length s - p) (drop p s), length-drop p s)
+
+  module _ (l : p < length s) where
+    chunk-byte : (i : ℕ) → i < 8 → slice_index eight i ≡ byte s (0 + p + i)
+    chunk-byte i k =
+        ap (λ (xs : List ℕ). slice_index xs i) c.same
+        ∙ get_or-take 8 (take (length s - p) (drop p s)) i 0 k
+        ∙ get_or-take (length s - p) (drop p s) i 0 (omega (arith, chunk-fits l))
+        ∙ get_or-drop p s i 0
+        ∙ same s p (p + i) (0 + p + i) (omega arith)
+
+    pub chunk-number : (made : ℕ)
+        → made ≡ slice_index eight 0 + slice_index eight 1 * 256 + slice_index eight 2 * 65536 + slice_index eight 3 * 16777216
+        + slice_index eight 4 * 4294967296 + slice_index eight 5 * 1099511627776 + slice_index eight 6 * 281474976710656 + slice_index eight 7 * 72057594037927936
+        → made ≡ eight_at s (0 + p)
+    chunk-number made e =
+        omega (
+          arith,
+          chunk-byte 0 (omega arith),
+          chunk-byte 1 (omega arith),
+          chunk-byte 2 (omega arith),
+          chunk-byte 3 (omega arith),
+          chunk-byte 4 (omega arith),
+          chunk-byte 5 (omega arith),
+          chunk-byte 6 (omega arith),
+          chunk-byte 7 (omega arith),
+          number s (0 + p),
+        )
 
 module _ (net : List ℕ) (from p n : ℕ) where
   -- fewer than eight places are left, or the eight weights are not all 0, or they are
@@ -85,6 +121,15 @@ module _ (net : List ℕ) (from p n : ℕ) where
         (λ many z e.
         let place : from + p + (q - p) ≡ from + q = omega arith in
         rw place at (eight-each net (from + p) z (q - p) (omega arith)))
+
+-- the weights of a slice that are passed over at place p are 0
+pub passed : (s : List ℕ) (p r : ℕ) → p < length s → byte s p ≡ 0 → r ≡ pass_zero s 0 p (length s) → (p < r) × AreZero s p r
+passed s p r l zero-here e =
+    let n = length s in
+    let here : byte s (0 + p) ≡ 0 = same s p (0 + p) p (omega arith) ∙ zero-here in (
+      omega (arith, pass_on s 0 p n l),
+      λ k u v. same s k k (0 + k) (omega arith) ∙ passed-zero s 0 p n l here k u (omega arith),
+    )
 
 -- a loop that has passed the test f at each number below p, and passes on to r
 pub all-on : (f : ℕ → Bool) (p r : ℕ) → all p f ≡ true → ((q : ℕ) → p ≤ q → q < r → f q ≡ true) → all r f ≡ true

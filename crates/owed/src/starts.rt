@@ -6,7 +6,7 @@ ghost use Rattle.forms.specs.Stored.{net_of, stored};
 ghost use Rattle.forms.specs.Frame.{Framed};
 ghost use Rattle.owed.specs.Marks.{FoundBelow};
 
-use crate::marks;
+use crate::{marks, weights};
 use forms::{places, words};
 use model::answer::Short;
 use model::net::Net;
@@ -17,7 +17,7 @@ pub fn lacking(net: &[u8], shape: Net, state: &[u8], t: usize) -> Option<usize>
     requires t_bound { t < byte net.now 6 }
     ensures { FoundBelow shape.places (lacking_place (net_of net.now) (stored net.now state.now) t) result }
 {
-    marks::short_place(net, places::inputs_at(shape.places, t), state, shape.places)
+    marks::short_place(weights::inputs(net, shape, t), state)
 }
 
 // Transition t is enabled: no place lacks tokens.
@@ -35,7 +35,7 @@ pub fn short(net: &[u8], shape: Net, state: &[u8], t: usize, p: usize) -> Short
     requires t_bound { (t < byte net.now 6) × (p < shape.places) × (p ≡ lacking_place (net_of net.now) (stored net.now state.now) t) }
     ensures { result ≡ short (net_of net.now) (stored net.now state.now) t }
 {
-    let weight = words::wide(net[places::inputs_at(shape.places, t) + p]);
+    let weight = words::wide(weights::inputs(net, shape, t)[p]);
     let lacks = weight - words::read16(state, places::mark_at(p));
     Short {
         place: p as u32,

@@ -1,46 +1,82 @@
-// The weights of a transition, most of which are 0: they are passed over, and eight at once where that many are 0.
-ghost use Rattle.std.specs.Prelude.{◌≡◌, ◌+◌, ◌<◌, ◌≤◌, length};
-ghost use Rattle.owed.specs.Weights.{two_at, four_at, eight_at, pass_zero};
+// The weights of a transition: one for each place, of which most are 0. These are passed over, and eight at once where that many are 0.
+ghost use Rattle.std.specs.Prelude.{◌≡◌, ◌-◌, ◌<◌, length};
+ghost use Rattle.std.specs.Iterator.{at_most};
+ghost use Rattle.forms.specs.Word.{byte};
+ghost use Rattle.forms.specs.Stored.{net_of};
+ghost use Rattle.forms.specs.Frame.{FramedNet};
+ghost use Rattle.owed.specs.Weights.{AreWeights, NextAbove, pass_zero};
 
-use forms::words;
+use forms::{places, words};
+use model::net::Net;
 
-// Two, four and eight bytes as a number, the lowest first. Each is a number of its own function, and not a test of one: only so does a
-// compiler make one load of eight bytes of it.
-fn two(s: &[u8], at: usize) -> usize
-    requires { at + 1 < length s.now }
-    ensures { (result ≡ two_at s.now at) × (result < 65536) }
+// The input weights of transition t.
+pub fn inputs<'a>(net: &'a [u8], shape: Net, t: usize) -> &'a [u8]
+    requires framed_net { FramedNet net.now shape }
+    requires t_bound { t < byte net.now 6 }
+    ensures { AreWeights shape.places ((net_of net.now).takes t) result.now }
 {
-    words::wide(s[at]) + 256 * words::wide(s[at + 1])
+    let at = places::inputs_at(shape.places, t);
+    &net[at..at + shape.places]
 }
 
-fn four(s: &[u8], at: usize) -> usize
-    requires { at + 3 < length s.now }
-    ensures { (result ≡ four_at s.now at) × (result < 4294967296) }
+// The output weights of transition t.
+pub fn outputs<'a>(net: &'a [u8], shape: Net, t: usize) -> &'a [u8]
+    requires framed_net { FramedNet net.now shape }
+    requires t_bound { t < byte net.now 6 }
+    ensures { AreWeights shape.places ((net_of net.now).gives t) result.now }
 {
-    two(s, at) + 65_536 * two(s, at + 2)
-}
-
-fn eight(s: &[u8], at: usize) -> usize
-    requires { at + 7 < length s.now }
-    ensures { result ≡ eight_at s.now at }
-{
-    four(s, at) + 4_294_967_296 * four(s, at + 4)
+    let at = places::outputs_at(shape.places, t);
+    &net[at..at + shape.places]
 }
 
 // The place to look at behind place p, whose weight is 0: eight places on where their weights are all 0, and else the next one.
-pub fn pass_zero(net: &[u8], from: usize, p: usize, places: usize) -> usize
-    requires { (places < 256) × (p < places) × (from + places ≤ length net.now) }
-    ensures { result ≡ pass_zero net.now from p places }
+pub fn pass_zero(weights: &[u8], p: usize) -> usize
+    requires { p < length weights.now }
+    ensures { result ≡ pass_zero weights.now 0 p (length weights.now) }
 {
-    // asked first of the net alone: a compiler then makes a loop of its own for small nets
-    if places < 8 {
+    // asked first of all the weights: a compiler then makes a loop of its own for small nets
+    if weights.len() < 8 {
         return p + 1;
     }
-    if places - p < 8 {
-        return p + 1;
+    match weights[p..].first_chunk() {
+        Some(eight) if u64::from_le_bytes(*eight) == 0 => p + 8,
+        _ => p + 1,
     }
-    if eight(net, from + p) == 0 {
-        return p + 8;
+}
+
+// The places from `at` on whose weights are above 0, each with its weight.
+#[derive(Clone, Copy, Drop)]
+pub struct AboveZero<'a> {
+    weights: &'a [u8],
+    at: usize,
+}
+
+impl<'a> AboveZero<'a> {
+    // All of them.
+    pub fn of(weights: &'a [u8]) -> AboveZero<'a>
+        ensures { (result.weights.now ≡ weights.now) × (result.at ≡ 0) }
+    {
+        AboveZero { weights, at: 0 }
     }
-    p + 1
+}
+
+impl<'a> Iterator for AboveZero<'a> {
+    type Item = (usize, usize);
+
+    ghost next_gives = { λ s r t. (t.weights ≡ s.weights) × NextAbove s.weights.now s.at r t.at };
+
+    ghost remaining = { λ s. at_most (length s.weights.now - s.at) };
+
+    fn next(&mut self) -> Option<(usize, usize)> {
+        while self.at < self.weights.len() {
+            let p = self.at;
+            let weight = words::wide(self.weights[p]);
+            if weight != 0 {
+                self.at = p + 1;
+                return Some((p, weight));
+            }
+            self.at = pass_zero(self.weights, p);
+        }
+        None
+    }
 }
