@@ -14,17 +14,15 @@ use forms::{net, places, words};
 use model::age::Age;
 use model::answer::{Barrier, Refusal};
 use model::net::Net;
-use owed::{counts, marks, starts};
+use owed::{counts, marks, starts, weights};
 
 // The age is in the interval of transition t.
+#[tactic(auto, unfolding(model::specs::Rules::is_timely))]
 pub fn timely(net: &[u8], t: usize, age: Age) -> bool
     requires { IsNet net.now × (t < byte net.now 6) }
     ensures { result ≡ is_timely (net_of net.now) t age.0 }
 {
-    if (age.0 as usize) < net::sfd(net, t) {
-        return false;
-    }
-    (age.0 as usize) <= net::lfd(net, t)
+    (net::sfd(net, t)..=net::lfd(net, t)).contains(&(age.0 as usize))
 }
 
 // Transition t starts.
@@ -40,16 +38,13 @@ pub fn start(net: &[u8], shape: Net, state: &mut [u8], t: usize) -> Result<(), R
     let running = counts::count(net, shape, state, t, Age(0));
     if !Net::held(running + 1) {
         // 13 is told before 14
-        let p = starts::lacking(net, shape, state, t);
-        if p < shape.places {
+        if let Some(p) = starts::lacking(net, shape, state, t) {
             return Err(Refusal::NotEnabled(starts::short(net, shape, state, t, p)));
         }
         return Err(Refusal::CountFull);
     }
-    let from = places::inputs_at(shape.places, t);
     // the test that `lacking` makes, made as the tokens are taken: both promise the same place
-    let p = marking::take(net, from, state, shape.places);
-    if p < shape.places {
+    if let Some(p) = marking::take(weights::inputs(net, shape, t), state) {
         return Err(Refusal::NotEnabled(starts::short(net, shape, state, t, p)));
     }
     words::write16(
@@ -74,8 +69,7 @@ pub fn unstart(net: &[u8], shape: Net, state: &mut [u8], t: usize) -> Result<(),
     if running == 0 {
         return Err(Refusal::OnlyBack(Barrier::NoneStarted));
     }
-    let from = places::inputs_at(shape.places, t);
-    if !marking::give(net, from, state, shape.places) {
+    if !marking::give(weights::inputs(net, shape, t), state) {
         return Err(Refusal::OnlyBack(Barrier::PlaceOverfull));
     }
     words::write16(
@@ -102,8 +96,7 @@ pub fn end(net: &[u8], shape: Net, state: &mut [u8], t: usize, age: Age) -> Resu
     if running == 0 {
         return Err(Refusal::NoneOfThatAge);
     }
-    let from = places::outputs_at(shape.places, t);
-    if !marking::give(net, from, state, shape.places) {
+    if !marking::give(weights::outputs(net, shape, t), state) {
         return Err(Refusal::PlaceFull);
     }
     words::write16(state, places::count_at(shape, t, age.column()), running - 1);
@@ -123,16 +116,16 @@ pub fn unend(net: &[u8], shape: Net, state: &mut [u8], t: usize, age: Age) -> Re
         return Err(Refusal::OutsideInterval);
     }
     let running = counts::count(net, shape, state, t, age);
-    let from = places::outputs_at(shape.places, t);
+    let given = weights::outputs(net, shape, t);
     if !Net::held(running + 1) {
         // 26 is told before 27
-        if marks::short_place(net, from, state, shape.places) < shape.places {
+        if marks::short_place(given, state).is_some() {
             return Err(Refusal::OnlyBack(Barrier::TooFewTokens));
         }
         return Err(Refusal::OnlyBack(Barrier::CountOverfull));
     }
     // the test that `short_place` makes, made as the tokens are taken
-    if marking::take(net, from, state, shape.places) < shape.places {
+    if marking::take(given, state).is_some() {
         return Err(Refusal::OnlyBack(Barrier::TooFewTokens));
     }
     words::write16(state, places::count_at(shape, t, age.column()), running + 1);

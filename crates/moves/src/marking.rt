@@ -1,114 +1,97 @@
-// The marking written: the weights that stand in the net from `from` on leave it or join it. Each place is asked as it is written, and
-// where one says no the places before it are set back, so that an event that is accepted goes over the places once.
-ghost use Rattle.std.specs.Prelude.{◌≡◌, ℕ, ◌+◌, ◌<◌, ◌≤◌, length};
+// The marking written: the weights of a transition leave it or join it. Each place is asked as it is written, and where one says no the
+// places before it are set back, so that an event that is accepted goes over the places once.
+ghost use Rattle.std.specs.Prelude.{◌≡◌, ℕ, Bool, ◌<◌, ◌≤◌, ◌+◌, length, Option, Some};
 ghost use Rattle.model.specs.Limits.{Held};
 ghost use Rattle.forms.specs.Word.{byte, word, put_words};
 ghost use Rattle.forms.specs.Places.{mark_at};
-ghost use Rattle.owed.specs.Marks.{short_place};
-ghost use Rattle.moves.specs.Marking.{after_taking, after_giving, is_roomy, taken, given};
+ghost use Rattle.owed.specs.Marks.{FoundBelow, short_place};
+ghost use Rattle.moves.specs.Marking.{Changes, Changed, after_taking, after_giving, is_roomy, taken, given};
 
 use forms::{places, words};
 use model::net::Net;
-use owed::weights;
+use owed::weights::AboveZero;
 
-// The weights leave the marking of so many places, if every one of these has its weight. Answers the lowest that has not, or their number.
-pub fn take(net: &[u8], from: usize, state: &mut [u8], places: usize) -> usize
-    requires { (places < 256) × (from + places ≤ length net.now) × (mark_at places ≤ length state.old) }
-    ensures value { result ≡ short_place net.now from state.old places }
-    ensures state_after { state.new ≡ taken net.now from state.old places }
+// Each place with a weight above 0, from the lowest, gets what `to` makes of its marking and the weight, up to the first of which it makes
+// none, which is answered.
+fn change<F: Fn(usize, usize) -> Option<usize>>(
+    weights: &[u8],
+    state: &mut [u8],
+    to: F,
+) -> Option<usize>
+    requires inside { (length weights.now < 256) × (mark_at (length weights.now) ≤ length state.old) }
+    requires asked { (p : ℕ) → p < length weights.now → word state.old (mark_at p) < 65536 → F.pre to (word state.old (mark_at p)) (byte weights.now p) }
+    requires fits { (p v : ℕ) → p < length weights.now → word state.old (mark_at p) < 65536 → F.post to (word state.old (mark_at p)) (byte weights.now p) (Some v) → v < 65536 }
+    ensures { (fails : ℕ → Bool) (g : ℕ → ℕ) → Changes (F.post to) weights.now state.old fails g → Changed fails g (length weights.now) state.old result state.new }
 {
-    let mut p = 0;
-    while p < places {
-        let weight = words::wide(net[from + p]);
-        if weight == 0 {
-            p = weights::pass_zero(net, from, p, places);
-        } else {
-            let at = places::mark_at(p);
-            let marking = words::read16(state, at);
-            if marking < weight {
-                give_back(net, from, state, p);
-                return p;
-            }
-            words::write16(state, at, marking - weight);
-            p += 1;
-        }
-    }
-    places
-}
-
-// The weights join the marking of so many places, if every one of these has room for its weight.
-pub fn give(net: &[u8], from: usize, state: &mut [u8], places: usize) -> bool
-    requires { (places < 256) × (from + places ≤ length net.now) × (mark_at places ≤ length state.old) }
-    ensures value { result ≡ is_roomy net.now from state.old places }
-    ensures state_after { state.new ≡ given net.now from state.old places }
-{
-    let mut p = 0;
-    while p < places {
-        let weight = words::wide(net[from + p]);
-        if weight == 0 {
-            p = weights::pass_zero(net, from, p, places);
-        } else {
-            let at = places::mark_at(p);
-            let more = words::read16(state, at) + weight;
-            if !Net::held(more) {
-                take_back(net, from, state, p);
-                return false;
-            }
-            words::write16(state, at, more);
-            p += 1;
-        }
-    }
-    true
-}
-
-// Each of so many places has room for its weight: the test that `give` makes, and nothing is written.
-pub fn has_room(net: &[u8], from: usize, state: &[u8], places: usize) -> bool
-    requires { (places < 256) × (from + places ≤ length net.now) × (mark_at places ≤ length state.now) }
-    ensures { result ≡ is_roomy net.now from state.now places }
-{
-    let mut p = 0;
-    while p < places {
-        let weight = words::wide(net[from + p]);
-        if !Net::held(words::read16(state, places::mark_at(p)) + weight) {
-            return false;
-        }
-        p += 1;
-    }
-    true
-}
-
-// The weights that have joined the marking of so many places leave it again.
-fn take_back(net: &[u8], from: usize, state: &mut [u8], places: usize)
-    requires places_bound { (places < 256) × (from + places ≤ length net.now) × (mark_at places ≤ length state.old) }
-    requires by_index { (p : ℕ) → p < places → byte net.now (from + p) ≤ word state.old (mark_at p) }
-    ensures { state.new ≡ put_words (mark_at 0) places (after_taking net.now from state.old) state.old }
-{
-    let mut p = 0;
-    while p < places {
+    for (p, weight) in AboveZero::of(weights) {
         let at = places::mark_at(p);
-        words::write16(
-            state,
-            at,
-            words::read16(state, at) - words::wide(net[from + p]),
-        );
-        p += 1;
+        let Some(marking) = to(words::read16(state, at), weight) else {
+            return Some(p);
+        };
+        words::write16(state, at, marking);
     }
+    None
 }
 
-// The weights that have left the marking of so many places join it again.
-fn give_back(net: &[u8], from: usize, state: &mut [u8], places: usize)
-    requires places_bound { (places < 256) × (from + places ≤ length net.now) × (mark_at places ≤ length state.old) }
-    requires by_index { (p : ℕ) → p < places → Held (word state.old (mark_at p) + byte net.now (from + p)) }
-    ensures { state.new ≡ put_words (mark_at 0) places (after_giving net.now from state.old) state.old }
+// The weights leave the marking, if every place has its weight. Answers the lowest that has not, or none.
+pub fn take(weights: &[u8], state: &mut [u8]) -> Option<usize>
+    requires { (length weights.now < 256) × (mark_at (length weights.now) ≤ length state.old) }
+    ensures value { FoundBelow (length weights.now) (short_place weights.now 0 state.old (length weights.now)) result }
+    ensures state_after { state.new ≡ taken weights.now 0 state.old (length weights.now) }
 {
-    let mut p = 0;
-    while p < places {
-        let at = places::mark_at(p);
-        words::write16(
-            state,
-            at,
-            words::read16(state, at) + words::wide(net[from + p]),
-        );
-        p += 1;
+    let short = change(
+        weights,
+        state,
+        |marking, weight| marking.checked_sub(weight),
+    );
+    if let Some(p) = short {
+        give_back(&weights[..p], state);
     }
+    short
+}
+
+// The weights join the marking, if every place has room for its weight.
+pub fn give(weights: &[u8], state: &mut [u8]) -> bool
+    requires { (length weights.now < 256) × (mark_at (length weights.now) ≤ length state.old) }
+    ensures value { result ≡ is_roomy weights.now 0 state.old (length weights.now) }
+    ensures state_after { state.new ≡ given weights.now 0 state.old (length weights.now) }
+{
+    let full = change(
+        weights,
+        state,
+        |marking, weight| Some(marking + weight).filter(|more| Net::held(*more)),
+    );
+    let Some(p) = full else {
+        return true;
+    };
+    take_back(&weights[..p], state);
+    false
+}
+
+// Each place has room for its weight: the test that `give` makes, and nothing is written.
+pub fn has_room(weights: &[u8], state: &[u8]) -> bool
+    requires { (length weights.now < 256) × (mark_at (length weights.now) ≤ length state.now) }
+    ensures { result ≡ is_roomy weights.now 0 state.now (length weights.now) }
+{
+    (0..weights.len()).all(|p| Net::held(
+        words::read16(state, places::mark_at(p)) + words::wide(weights[p]),
+    ))
+}
+
+// The weights that have left the marking join it again.
+fn give_back(weights: &[u8], state: &mut [u8])
+    requires inside { (length weights.now < 256) × (mark_at (length weights.now) ≤ length state.old) }
+    requires by_index { (p : ℕ) → p < length weights.now → Held (word state.old (mark_at p) + byte weights.now p) }
+    ensures { state.new ≡ put_words (mark_at 0) (length weights.now) (after_giving weights.now 0 state.old) state.old }
+{
+    change(weights, state, |left, weight| Some(left + weight));
+}
+
+// The weights that have joined the marking leave it again.
+fn take_back(weights: &[u8], state: &mut [u8])
+    requires inside { (length weights.now < 256) × (mark_at (length weights.now) ≤ length state.old) }
+    requires by_index { (p : ℕ) → p < length weights.now → byte weights.now p ≤ word state.old (mark_at p) }
+    ensures { state.new ≡ put_words (mark_at 0) (length weights.now) (after_taking weights.now 0 state.old) state.old }
+{
+    change(weights, state, |more, weight| Some(more - weight));
 }

@@ -11,12 +11,12 @@ ghost use Rattle.forms.specs.Frame.{FramedNet, Framed};
 ghost use Rattle.moves.specs.After.{applied, state_taken_back, after, Answers, step_of, clear_before};
 
 use crate::{firing, marking};
-use forms::{net, places};
+use forms::net;
 use model::age::Age;
 use model::answer::{Barrier, Refusal};
 use model::event::Event;
 use model::net::Net;
-use owed::{counts, starts};
+use owed::{counts, starts, weights};
 
 // What is known of the step that an event stands in, in the state before it.
 #[derive(Clone, Copy)]
@@ -55,14 +55,8 @@ pub fn clear_before(clear: bool, event: Event) -> bool
     ensures { result ≡ clear_before clear event }
 {
     match event {
-        Event::Tick => true,
-        Event::Start(_) => true,
-        Event::End(_, age) => {
-            if age.0 != 0 {
-                return false;
-            }
-            clear
-        }
+        Event::Tick | Event::Start(_) => true,
+        Event::End(_, age) => clear && age.0 == 0,
         Event::Malformed => clear,
     }
 }
@@ -73,10 +67,7 @@ fn may_start(net: &[u8], shape: Net, state: &[u8], known: bool) -> bool
     requires state_value { known ≡ true → has_no_old_end_owed (net_of net.now) (stored net.now state.now) ≡ true }
     ensures { result ≡ has_no_old_end_owed (net_of net.now) (stored net.now state.now) }
 {
-    if known {
-        return true;
-    }
-    counts::no_old_end_owed(net, shape, state)
+    known || counts::no_old_end_owed(net, shape, state)
 }
 
 // Once a start has happened in the step, only firings of age 0 end.
@@ -84,10 +75,7 @@ fn may_start(net: &[u8], shape: Net, state: &[u8], known: bool) -> bool
 fn may_end(started: bool, age: Age) -> bool
     ensures { result ≡ can_end started age.0 }
 {
-    if !started {
-        return true;
-    }
-    age.0 == 0
+    !started || age.0 == 0
 }
 
 // Transition t starts. Whether a start has happened before in the step is all one to it.
@@ -112,8 +100,7 @@ fn start_too_soon(net: &[u8], shape: Net, state: &[u8], t: usize) -> Result<(), 
     if shape.transitions <= t {
         return Err(Refusal::NoSuchTransition);
     }
-    let p = starts::lacking(net, shape, state, t);
-    if p < shape.places {
+    if let Some(p) = starts::lacking(net, shape, state, t) {
         return Err(Refusal::NotEnabled(starts::short(net, shape, state, t, p)));
     }
     Err(Refusal::OldEndOwed)
@@ -150,8 +137,7 @@ fn unstart_too_soon(net: &[u8], shape: Net, state: &[u8], t: usize) -> Result<()
     if counts::count(net, shape, state, t, Age(0)) == 0 {
         return Err(Refusal::OnlyBack(Barrier::NoneStarted));
     }
-    let from = places::inputs_at(shape.places, t);
-    if !marking::has_room(net, from, state, shape.places) {
+    if !marking::has_room(weights::inputs(net, shape, t), state) {
         return Err(Refusal::OnlyBack(Barrier::PlaceOverfull));
     }
     Err(Refusal::OldEndOwed)

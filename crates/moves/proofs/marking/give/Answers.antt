@@ -1,92 +1,44 @@
--- `marking::give` meets its contract. The loop keeps that every place passed had room for its weight, and that the weights of these are given.
-use mathlib.Core.Path.{◌≡◌, refl}
-use mathlib.Core.Bool.{Bool, true, false}
-use Prim.Native.Nat.{ℕ, ◌+◌, ◌<◌, ◌≤◌}
-use native.Mathlib.Omega.{arith}
+-- `marking::give` meets its contract.
+use Rattle.std.proofs.Common.{◌≡◌, ◌+◌, cond, not, Some, None, length, sym, rules, tests, arith}
 use Rattle.model.specs.Limits.{is_held}
-use Rattle.model.proofs.Alls.{all-begin, passed, failed}
 use Rattle.forms.specs.Word.{Bytes, byte, word}
 use Rattle.forms.specs.Places.{mark_at}
-use Rattle.forms.proofs.Runs.{put-begin}
-use Rattle.owed.proofs.Passing.{pass_on, passed-zero}
-use Rattle.moves.specs.Marking.{after_giving}
-use Rattle.moves.proofs.Marked.{mark-read}
-use Rattle.moves.proofs.Weighing.{give-on, give-turn, give-word, give-stop, give-end}
+use Rattle.moves.specs.Marking.{Changed, after_giving}
+use Rattle.moves.proofs.Weighing.{front-length, give-told, give-stays, give-all, give-had, give-back}
 use Rattle.moves.proofs.marking.give.Goals as goal
+use Rattle.moves.proofs.marking.give.Goals.{After-change-full}
 
-pub loop-p-init : goal.loop-p-init
-loop-p-init c =
-    let a = c.args in
-    (omega arith, refl, put-begin (mark_at 0) (after_giving a.net.now a.from a.state.now) a.state.now, all-begin (λ k. is_held (after_giving a.net.now a.from a.state.now k)))
+-- what the closure made of the marking
+tried : (c : After-change-full)
+    → Changed (λ p. not (is_held (after_giving c.args.weights.now 0 c.args.state.now p))) (after_giving c.args.weights.now 0 c.args.state.now) (length c.args.weights.now) c.args.state.now c.change-full.result c.change-full.new.state
+tried c =
+    let small : Bytes c.args.state.now = search rules in
+    c.change-full.ensures (λ p. not (is_held (after_giving c.args.weights.now 0 c.args.state.now p))) (after_giving c.args.weights.now 0 c.args.state.now) record {
+      told = λ p r l h. give-told _ _ p r (search (rules, tests));
+      stays = λ p l z. give-stays _ _ small p z;
+    }
 
-pub loop-p-smaller-then-weight-eq0 : goal.loop-p-smaller-then-weight-eq0
-loop-p-smaller-then-weight-eq0 c =
-    let on : (c.loop-p.p < c.pass_zero-p.result) × (c.pass_zero-p.result ≤ c.args.places) =
-    let a = c.args in
-    rw c.pass_zero-p.ensures (pass_on a.net.now a.from c.loop-p.p a.places (omega arith)) in
-    omega (arith, on.0)
+pub returns-in_default-clause-value : goal.returns-in_default-clause-value
+returns-in_default-clause-value c = (give-all _ _ _ (rw c.in_default.is at (tried (goal.at.returns-in_default-clause-value c).After-change-full))).0
 
-pub loop-p-preserved-then-weight-eq0 : goal.loop-p-preserved-then-weight-eq0
-loop-p-preserved-then-weight-eq0 c =
-    let small : Bytes c.args.state.now =
-    λ k. omega (arith, c.slice_known-1.given k) in
-    let on : (c.loop-p.p < c.pass_zero-p.result) × (c.pass_zero-p.result ≤ c.args.places) =
-    let a = c.args in
-    rw c.pass_zero-p.ensures (pass_on a.net.now a.from c.loop-p.p a.places (omega arith)) in
-    let zeros : (k : ℕ) → c.loop-p.p ≤ k → k < c.pass_zero-p.result → byte c.args.net.now (c.args.from + k) ≡ 0 =
-    λ k u l. let a = c.args in
-    passed-zero a.net.now a.from c.loop-p.p a.places (omega arith) (omega arith) k u (rw c.pass_zero-p.ensures at l) in
-    let a = c.args in
-    let next = give-on a.net.now a.from a.state.now small c.loop-p.p c.loop-p.state c.loop-p.invariant.2 c.loop-p.invariant.3 c.pass_zero-p.result (omega (arith, on.0)) zeros in
-    (omega (arith, on.1), c.loop-p.invariant.1, next.0, next.1)
+pub returns-in_default-clause-state_after : goal.returns-in_default-clause-state_after
+returns-in_default-clause-state_after c = (give-all _ _ _ (rw c.in_default.is at (tried (goal.at.returns-in_default-clause-state_after c).After-change-full))).1
 
-pub take_back-requires : goal.take_back-requires
-take_back-requires c =
-    let small : Bytes c.args.state.now =
-    λ k. omega (arith, c.slice_known-1.given k) in
-    let a = c.args in record { places_bound = omega arith; by_index = λ q l. omega (arith, give-word a.net.now a.from a.state.now small c.loop-p.p c.loop-p.state c.loop-p.invariant.2 c.loop-p.invariant.3 (omega arith) q l) }
+pub slice_bounds-take_back-end : goal.slice_bounds-take_back-end
+slice_bounds-take_back-end c =
+    let first = rw c.in-Some.is at (tried (goal.at.slice_bounds-take_back-end c).After-change-full) in
+    sym (front-length c.args.weights.now c.in-Some.p (omega (arith, first.0)))
 
-pub returns-then-not-held : goal.returns-then-not-held
-returns-then-not-held c =
-    let small : Bytes c.args.state.now =
-    λ k. omega (arith, c.slice_known-1.given k) in
-    let stood : c.read16.result ≡ word c.args.state.now (mark_at c.loop-p.p) =
-    let a = c.args in
-    mark-read (after_giving a.net.now a.from a.state.now) a.state.now c.loop-p.p c.loop-p.state c.mark_at-at.result c.read16.result
-    c.loop-p.invariant.2 c.mark_at-at.ensures c.read16.ensures.0 in
-    let weight : c.wide-weight.result ≡ byte c.args.net.now (c.args.from + c.loop-p.p) =
-    c.wide-weight.ensures.0 in
-    let asked : c.read16.result + c.wide-weight.result ≡ after_giving c.args.net.now c.args.from c.args.state.now c.loop-p.p =
-    omega (arith, stood, weight) in
-    let no_room : (r : Bool) → r ≡ is_held (c.read16.result + c.wide-weight.result) → r ≡ false → is_held (after_giving c.args.net.now c.args.from c.args.state.now c.loop-p.p) ≡ false =
-    λ r e f. rw asked at (failed e f) in
-    let a = c.args in
-    let both = give-stop a.net.now a.from a.state.now small c.loop-p.p c.loop-p.state c.loop-p.invariant.2 c.loop-p.invariant.3 a.places (omega arith) (omega arith) (no_room c.held.result c.held.ensures c.if-not-held.true) _ c.take_back.ensures in
-    record { value = both.0; state_after = both.1 }
+pub take_back-requires-clause-by_index : goal.take_back-requires-clause-by_index
+take_back-requires-clause-by_index c =
+    give-had _ _ _ c.in-Some.p (rw c.in-Some.is at (tried (goal.at.take_back-requires-clause-by_index c).After-change-full)) c.requires.1
 
-pub loop-p-preserved : goal.loop-p-preserved
-loop-p-preserved c =
-    let small : Bytes c.args.state.now =
-    λ k. omega (arith, c.slice_known-1.given k) in
-    let stood : c.read16.result ≡ word c.args.state.now (mark_at c.loop-p.p) =
-    let a = c.args in
-    mark-read (after_giving a.net.now a.from a.state.now) a.state.now c.loop-p.p c.loop-p.state c.mark_at-at.result c.read16.result
-    c.loop-p.invariant.2 c.mark_at-at.ensures c.read16.ensures.0 in
-    let weight : c.wide-weight.result ≡ byte c.args.net.now (c.args.from + c.loop-p.p) =
-    c.wide-weight.ensures.0 in
-    let asked : c.read16.result + c.wide-weight.result ≡ after_giving c.args.net.now c.args.from c.args.state.now c.loop-p.p =
-    omega (arith, stood, weight) in
-    let roomy : (r : Bool) → r ≡ is_held (c.read16.result + c.wide-weight.result) → r ≡ true → is_held (after_giving c.args.net.now c.args.from c.args.state.now c.loop-p.p) ≡ true =
-    λ r e f. rw asked at (passed e f) in
-    let a = c.args in
-    let wrote = rw c.mark_at-at.ensures at c.write16.ensures in
-    let next = give-turn a.net.now a.from a.state.now small c.loop-p.p c.loop-p.state c.loop-p.invariant.2 c.loop-p.invariant.3 (roomy c.held.result c.held.ensures c.if-not-held.false) _ (c.read16.result + c.wide-weight.result) wrote (omega (arith, stood, weight)) in
-    (omega arith, omega arith, next.0, next.1)
+pub returns-clause-value : goal.returns-clause-value
+returns-clause-value c =
+    let small : Bytes c.args.state.now = search rules in
+    (give-back _ _ _ c.in-Some.p (rw c.in-Some.is at (tried (goal.at.returns-clause-value c).After-change-full)) c.requires.1 small _ c.take_back.ensures).0
 
-pub returns : goal.returns
-returns c =
-    let small : Bytes c.args.state.now =
-    λ k. omega (arith, c.slice_known-1.given k) in
-    let a = c.args in
-    let both = give-end a.net.now a.from a.state.now small c.loop-p.p c.loop-p.state c.loop-p.invariant.2 c.loop-p.invariant.3 a.places (omega arith) (omega arith) in
-    record { value = both.0; state_after = both.1 }
+pub returns-clause-state_after : goal.returns-clause-state_after
+returns-clause-state_after c =
+    let small : Bytes c.args.state.now = search rules in
+    (give-back _ _ _ c.in-Some.p (rw c.in-Some.is at (tried (goal.at.returns-clause-state_after c).After-change-full)) c.requires.1 small _ c.take_back.ensures).1

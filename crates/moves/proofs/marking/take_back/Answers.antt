@@ -1,39 +1,23 @@
--- `marking::take_back` meets its contract. The loop keeps that the markings passed are written.
-use mathlib.Core.Path.{◌≡◌, refl}
-use Prim.Native.Nat.{◌-◌}
-use native.Mathlib.Omega.{arith}
-use Rattle.forms.specs.Word.{word}
+-- `marking::take_back` meets its contract: no place fails.
+use Rattle.std.proofs.Common.{refl, false, ◌+◌, ◌-◌, rules, arith}
+use native.Mathlib.Nat.{zero-add}
+use Rattle.forms.specs.Word.{byte, word}
 use Rattle.forms.specs.Places.{mark_at}
-use Rattle.forms.proofs.Runs.{put-begin, put-turn}
+use Rattle.owed.proofs.Passing.{same}
 use Rattle.moves.specs.Marking.{after_taking}
-use Rattle.moves.proofs.Marked.{mark-read}
+use Rattle.moves.proofs.Weighing.{some-fits, changed-all}
 use Rattle.moves.proofs.marking.take_back.Goals as goal
 
-pub loop-p-init : goal.loop-p-init
-loop-p-init c =
-    let a = c.args in
-    (omega arith, refl, put-begin (mark_at 0) (after_taking a.net.now a.from a.state.now) a.state.now)
+pub change-requires-clause-asked : goal.change-requires-clause-asked
+change-requires-clause-asked c = λ p l m. let h = c.requires.by_index p l in search rules
 
-pub overflow_sub-read16 : goal.overflow_sub-read16
-overflow_sub-read16 c =
-    let stood : c.read16.result ≡ word c.args.state.now (mark_at c.loop-p.p) =
-    let a = c.args in
-    mark-read (after_taking a.net.now a.from a.state.now) a.state.now c.loop-p.p c.loop-p.state c.mark_at-at.result c.read16.result
-    c.loop-p.invariant.2 c.mark_at-at.ensures c.read16.ensures.0 in
-    omega (arith, stood, c.wide.ensures.0, c.requires.by_index c.loop-p.p (omega arith))
+pub change-requires-clause-fits : goal.change-requires-clause-fits
+change-requires-clause-fits c = λ p v l m h.
+    some-fits v (word c.args.state.now (mark_at p) - byte c.args.weights.now p) (search rules) (omega arith)
 
-pub loop-p-preserved : goal.loop-p-preserved
-loop-p-preserved c =
-    let stood : c.read16.result ≡ word c.args.state.now (mark_at c.loop-p.p) =
-    let a = c.args in
-    mark-read (after_taking a.net.now a.from a.state.now) a.state.now c.loop-p.p c.loop-p.state c.mark_at-at.result c.read16.result
-    c.loop-p.invariant.2 c.mark_at-at.ensures c.read16.ensures.0 in
-    let a = c.args in
-    let wrote = rw c.mark_at-at.ensures at c.write16.ensures in
-    let value : c.read16.result - c.wide.result ≡ after_taking a.net.now a.from a.state.now c.loop-p.p =
-    omega (arith, stood, c.wide.ensures.0) in (
-      omega arith,
-      omega arith,
-      put-turn (mark_at 0) (after_taking a.net.now a.from a.state.now) a.state.now c.loop-p.p c.loop-p.state _ (c.read16.result - c.wide.result)
-          c.loop-p.invariant.2 wrote value,
-    )
+pub returns : goal.returns
+returns c =
+    changed-all _ (after_taking c.args.weights.now 0 c.args.state.now) _ _ _ (c.change.ensures (λ _. false) (after_taking c.args.weights.now 0 c.args.state.now) record {
+      told = λ p r l h. rw (zero-add p) (search rules);
+      stays = λ p l z. (refl, omega (arith, z, same c.args.weights.now p (0 + p) p (omega arith)));
+    })
