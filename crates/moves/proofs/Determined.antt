@@ -4,6 +4,7 @@
 -- Assumes nothing.
 use mathlib.Core.Path.{sym, ◌∙◌}
 use Rattle.model.proofs.Determined.{Determined, LeavesOne}
+use Rattle.owed.proofs.Determined.{found-once}
 use Rattle.moves.proofs.shift.shift_up.Reads as shift-up
 use Rattle.moves.proofs.shift.shift_up.Kinds as shift-up-kinds
 use Rattle.moves.proofs.shift.shift_down.Reads as shift-down
@@ -60,15 +61,15 @@ pub shift-down-leaves : LeavesOne 1 shift-down-kinds.ps shift-down-kinds.r shift
 shift-down-leaves κs args x y s s' p q = p ∙ sym q
 
 pub take-determined : Determined 2 take-kinds.ps take-kinds.r take.Learnt
-take-determined κs args x y s s' p q = p.0 ∙ sym q.0
+take-determined κs args x y s s' p q = found-once _ _ x y p.0 q.0
 
-pub take-leaves : LeavesOne 2 take-kinds.ps take-kinds.r take.Learnt (λ κs s. s.1.1.0.now)
+pub take-leaves : LeavesOne 2 take-kinds.ps take-kinds.r take.Learnt (λ κs s. s.1.0.now)
 take-leaves κs args x y s s' p q = p.1 ∙ sym q.1
 
 pub give-determined : Determined 2 give-kinds.ps give-kinds.r give.Learnt
 give-determined κs args x y s s' p q = p.0 ∙ sym q.0
 
-pub give-leaves : LeavesOne 2 give-kinds.ps give-kinds.r give.Learnt (λ κs s. s.1.1.0.now)
+pub give-leaves : LeavesOne 2 give-kinds.ps give-kinds.r give.Learnt (λ κs s. s.1.0.now)
 give-leaves κs args x y s s' p q = p.1 ∙ sym q.1
 
 pub move-on-leaves : LeavesOne 2 move-on-kinds.ps move-on-kinds.r move-on.Learnt (λ κs s. s.1.1.0.now)

@@ -1,6 +1,6 @@
 -- Starts and ends on bytes, done and taken back: the markings move by a transition's weights, and one count by one.
 -- Assumes nothing.
-use mathlib.Core.Path.{◌≡◌, sym, ap, ◌∙◌}
+use mathlib.Core.Path.{◌≡◌, refl, sym, ap, ◌∙◌}
 use mathlib.Core.Logic.{by_cases}
 use mathlib.Core.Bool.{Bool, true, false}
 use mathlib.Core.List.{List}
@@ -13,7 +13,6 @@ use borrow.Author.Tests.{lt-ltb, le-ltb}
 use lib.Dec.{ltb}
 use lib.ListN.{length}
 use Rattle.model.specs.declared.age.Age.{Age}
-use Rattle.model.specs.declared.age.Column.{Column}
 use Rattle.model.specs.declared.net.Net.{Net as Shape}
 use Rattle.model.specs.Age.{column_of}
 use Rattle.model.specs.Limits.{Held, is_held}
@@ -30,8 +29,12 @@ use Rattle.forms.proofs.WordLaws.{word_same, word_after, word-before, word_fits,
 use Rattle.forms.proofs.Runs.{put_rows-flat, put_words-over}
 use Rattle.forms.proofs.Stored.{count-place, count_at_lem}
 use Rattle.forms.proofs.States.{transitions-same}
-use Rattle.forms.proofs.Inside.{mark-stands, known-model}
-use Rattle.moves.specs.Marking.{after_taking, after_giving}
+use Rattle.forms.proofs.States.{places-small}
+use Rattle.forms.proofs.Inside.{mark-stands, marks-inside, count-inside}
+use Rattle.owed.specs.Weights.{AreWeights}
+use Rattle.owed.proofs.Passing.{same}
+use Rattle.moves.specs.Marking.{after_taking, after_giving, is_roomy}
+use Rattle.moves.proofs.Looked.{roomy-each}
 
 -- two cells of a matrix with d columns stand at one place only if they are one cell
 pub cell-once : (d t j u k : ℕ) → j < d → k < d → t * d + j ≡ u * d + k → (t ≡ u) × (j ≡ k)
@@ -99,43 +102,45 @@ module _ (N : Net) (b : List ℕ) (size : image_length N ≤ length b) (small : 
 
 -- THE WEIGHTS LEAVE THE MARKING AND THE COUNT GOES UP, OR THEY JOIN IT AND THE COUNT GOES DOWN
 
--- `from` is where the code found the weights w, `at` where it found the count, and v what stood there; x is the buffer with the
--- markings written, and y with the count written too
-module _ (net : List ℕ) (shape : Shape) (b : List ℕ) (f : Framed net shape b) (small : Bytes b) (t : ℕ) (known : t < byte net 6)
-    (age : Age) (young : age.0 < shape.width) (from : ℕ) (w : ℕ → ℕ) (right : (p : ℕ) → byte net (from + p) ≡ w p)
-    (c : Column) (at : ℕ) (column : c ≡ column_of age) (place : at ≡ count_at shape.places shape.width t c)
-    (v : ℕ) (stands : v ≡ count (stored net b) t age.0) where
-  place_is : at ≡ 8 + 2 * (net_of net).places + 2 * (t * width (net_of net) + age.0)
+-- ws are the weights w, and v is the count; x is the buffer with the markings written, and y with the count written too
+module _ (net : List ℕ) (shape : Shape) (b : List ℕ) (f : Framed net shape b) (small : Bytes b) (t : ℕ) (known : t < shape.transitions)
+    (age : Age) (young : age.0 < shape.width) (w : ℕ → ℕ) (ws : List ℕ) (are : AreWeights shape.places w ws)
+    (v : ℕ) (stands : v ≡ count (stored net b) t age.0) (x y : List ℕ) where
+  place_is : count_at shape.places shape.width t (column_of age) ≡ 8 + 2 * (net_of net).places + 2 * (t * width (net_of net) + age.0)
   place_is =
       let h = f.net_framed.has_shape in
-      rw (place, column, h.places_are, h.width_is) (count-place (net_of net).places (width (net_of net)) t age.0)
+      rw (h.places_are, h.width_is) (count-place (net_of net).places (width (net_of net)) t age.0)
 
   young-model : age.0 < width (net_of net)
   young-model = omega (arith, f.net_framed.has_shape.width_is)
 
-  pub raised : Held (v + 1) → (x y : List ℕ) → x ≡ put_words (mark_at 0) shape.places (after_taking net from b) b → y ≡ set_word x at (v + 1)
+  known-net : t < (net_of net).transitions
+  known-net = omega (arith, f.net_framed.has_shape.transitions_are)
+
+  weight : (p : ℕ) → p < (net_of net).places → byte ws (0 + p) ≡ w p
+  weight p l = same ws p (0 + p) p (omega arith) ∙ are.1 p (omega (arith, f.net_framed.has_shape.places_are))
+
+  pub raised : Held (v + 1) → x ≡ put_words (mark_at 0) (length ws) (after_taking ws 0 b) b → y ≡ set_word x (count_at shape.places shape.width t (column_of age)) (v + 1)
       → y ≡ written (net_of net) (build (net_of net) (λ p. tokens (stored net b) p - w p) (λ u k. count (stored net b) u k + one t age.0 u k)) b
-  raised free x y ex ey =
+  raised free ex ey =
       let N = net_of net in
-      let tm = known-model net shape b f t known in
-      rw (ey, ex, place_is, f.net_framed.has_shape.places_are)
-      (cell-written N b f.is_state.head.room small t age.0 tm young-model (after_taking net from b) (v + 1) _
+      rw (ey, ex, place_is, are.0, f.net_framed.has_shape.places_are)
+      (cell-written N b f.is_state.head.room small t age.0 known-net young-model (after_taking ws 0 b) (v + 1) _
       (λ p l. omega (arith, word_fits b (mark_at p) small)) (omega arith)
-      (λ p l. tokens-build N _ _ p l ∙ omega (arith, mark-stands net shape b f p (omega (arith, f.net_framed.has_shape.places_are)), right p))
-      (count-build N _ _ t age.0 tm young-model ∙ omega (arith, one-here t age.0, stands))
+      (λ p l. tokens-build N _ _ p l ∙ omega (arith, mark-stands net shape b f p (omega (arith, f.net_framed.has_shape.places_are)), weight p l))
+      (count-build N _ _ t age.0 known-net young-model ∙ omega (arith, one-here t age.0, stands))
       (λ u k ul kl off. count-build N _ _ u k ul kl ∙ omega (arith, one-off t age.0 u k off)))
 
-  pub lowered : v < 65536 → ((p : ℕ) → p < shape.places → Held (word b (mark_at p) + byte net (from + p)))
-      → (x y : List ℕ) → x ≡ put_words (mark_at 0) shape.places (after_giving net from b) b → y ≡ set_word x at (v - 1)
+  pub lowered : v < 65536 → is_roomy ws 0 b (length ws) ≡ true → x ≡ put_words (mark_at 0) (length ws) (after_giving ws 0 b) b
+      → y ≡ set_word x (count_at shape.places shape.width t (column_of age)) (v - 1)
       → y ≡ written (net_of net) (build (net_of net) (λ p. tokens (stored net b) p + w p) (λ u k. count (stored net b) u k - one t age.0 u k)) b
-  lowered fits-v roomy x y ex ey =
+  lowered fits-v roomy ex ey =
       let N = net_of net in
-      let tm = known-model net shape b f t known in
-      rw (ey, ex, place_is, f.net_framed.has_shape.places_are)
-      (cell-written N b f.is_state.head.room small t age.0 tm young-model (after_giving net from b) (v - 1) _
-      (λ p l. omega (arith, roomy p (omega (arith, f.net_framed.has_shape.places_are)))) (omega arith)
-      (λ p l. tokens-build N _ _ p l ∙ omega (arith, mark-stands net shape b f p (omega (arith, f.net_framed.has_shape.places_are)), right p))
-      (count-build N _ _ t age.0 tm young-model ∙ omega (arith, one-here t age.0, stands))
+      rw (ey, ex, place_is, are.0, f.net_framed.has_shape.places_are)
+      (cell-written N b f.is_state.head.room small t age.0 known-net young-model (after_giving ws 0 b) (v - 1) _
+      (λ p l. omega (arith, roomy-each ws b (length ws) roomy p (omega (arith, are.0, f.net_framed.has_shape.places_are)))) (omega arith)
+      (λ p l. tokens-build N _ _ p l ∙ omega (arith, mark-stands net shape b f p (omega (arith, f.net_framed.has_shape.places_are)), weight p l))
+      (count-build N _ _ t age.0 known-net young-model ∙ omega (arith, one-here t age.0, stands))
       (λ u k ul kl off. count-build N _ _ u k ul kl ∙ omega (arith, one-off t age.0 u k off)))
 
 -- WHAT THE CODE ASKS, BY THE SHAPE THAT IT HAS IN HAND
@@ -147,9 +152,17 @@ module _ (net : List ℕ) (shape : Shape) (b : List ℕ) (f : Framed net shape b
   pub unknown-test : shape.transitions ≤ t → ltb t (net_of net).transitions ≡ false
   unknown-test l = le-ltb t (net_of net).transitions (omega (arith, f.net_framed.has_shape.transitions_are))
 
-  module _ (known : t < byte net 6) where
-    pub known-test : ltb t (net_of net).transitions ≡ true
-    known-test = lt-ltb t (net_of net).transitions (known-model net shape b f t known)
+  pub known-test : t < shape.transitions → ltb t (net_of net).transitions ≡ true
+  known-test l = lt-ltb t (net_of net).transitions (omega (arith, f.net_framed.has_shape.transitions_are))
+
+  -- what the weights of a transition ask of the state, and a count
+  pub weighed : (n : ℕ) → n ≡ shape.places → (n < 256) × (mark_at n ≤ length b)
+  weighed n e = (omega (arith, places-small net shape f.net_framed), omega (arith, marks-inside net shape b f))
+
+  pub cell-inside : t < shape.transitions → (age : Age) → age.0 < shape.width → (x : List ℕ) → length x ≡ length b
+      → count_at shape.places shape.width t (column_of age) + 1 < length x
+  cell-inside l age young x same =
+      omega (arith, count-inside net shape b f t (known-byte l) age (column_of age) (count_at shape.places shape.width t (column_of age)) young refl refl)
 
 -- the count that the code found, one more: the test of the code is the model's
 pub one_more : {v n : ℕ} {r : Bool} → v ≡ n → is_held (v + 1) ≡ r → is_held (suc n) ≡ r

@@ -1,81 +1,85 @@
 -- What `take` and `give` of `marking` test, against the rules, and what they leave.
 -- Assumes nothing.
-use mathlib.Core.Path.{◌≡◌, refl, ◌∙◌}
-use mathlib.Core.Bool.{Bool, true, false}
+use mathlib.Core.Path.{◌≡◌, sym, ◌∙◌}
+use mathlib.Core.Bool.{true, false}
 use mathlib.Core.List.{List}
-use Prim.Native.Nat.{ℕ, ◌+◌, ◌<◌, ◌≤◌}
+use Prim.Native.Nat.{ℕ, ◌+◌, ◌<◌}
 use native.Mathlib.Omega.{arith}
 use lib.Dec.{eqb}
+use lib.ListN.{length}
+use Rattle.std.proofs.Common.{Option, Some, None}
+use Rattle.std.specs.Option.{is_some}
 use borrow.Author.Tests.{eq-eqb, ne_eqb}
 use Rattle.model.specs.declared.net.Net.{Net as Shape}
 use Rattle.model.specs.Limits.{Held}
 use Rattle.model.specs.Rules.{does_cover, has_room}
-use Rattle.model.specs.Owed.{Lowest}
-use Rattle.model.proofs.Lowest.{lowest-is}
 use Rattle.model.proofs.Tab.{all-tells}
-use Rattle.model.proofs.Tests.{ltb-tells, held_tells, has-room-tells}
-use Rattle.model.proofs.Alls.{tells-same, passed, failed, holds}
+use Rattle.model.proofs.Tests.{held_tells, has-room-tells}
+use Rattle.model.proofs.Alls.{tells-same, holds}
 use Rattle.forms.specs.Word.{byte, word, put_words}
 use Rattle.forms.specs.Places.{mark_at}
 use Rattle.forms.specs.Stored.{net_of, stored}
 use Rattle.forms.specs.Frame.{Framed}
 use Rattle.forms.proofs.Inside.{mark-stands}
-use Rattle.owed.specs.Marks.{is_short, short_place}
+use Rattle.owed.specs.Marks.{FoundBelow, is_short, short_place}
+use Rattle.owed.specs.Weights.{AreWeights}
+use Rattle.owed.proofs.Passing.{same}
 use Rattle.owed.proofs.ModelTests.{lowest-all, covers-is}
 use Rattle.moves.specs.Marking.{after_taking, after_giving, is_roomy, taken, given}
 
--- the place that is told to be short is one of n, or n
-module _ (net : List ℕ) (from : ℕ) (b : List ℕ) (n r : ℕ) (told : r ≡ short_place net from b n) where
-  pub short-some : r < n → eqb (short_place net from b n) n ≡ false
-  short-some l = ne_eqb (short_place net from b n) n (λ e. omega arith)
+-- what is found, where the code asks only whether anything is
+pub found-some : (n p : ℕ) (r : Option ℕ) → FoundBelow n p r → true ≡ is_some r → (q : ℕ) × FoundBelow n p (Some q)
+found-some n p None f e = let z : ◌≡◌ {A = ℕ} 0 1 = cc in absurd (omega arith)
+found-some n p (Some q) f e = (q, f)
 
-  pub short_none : n ≤ r → eqb (short_place net from b n) n ≡ true
-  unfolding short_place
-  short_none u = go (lowest-is (λ p. ltb-tells (word b (mark_at p)) (byte net (from + p))) n n) told
-    where
-      go : {l : ℕ} → Lowest (λ p. word b (mark_at p) < byte net (from + p)) n n l → r ≡ l → eqb l n ≡ true
-      go (Lowest.found h here below) e = absurd (omega arith)
-      go (Lowest.empty none) e = eq-eqb n n refl
+pub found-none : (n p : ℕ) (r : Option ℕ) → FoundBelow n p r → false ≡ is_some r → FoundBelow n p None
+found-none n p None f e = f
+found-none n p (Some q) f e = let z : ◌≡◌ {A = ℕ} 0 1 = cc in absurd (omega arith)
 
--- x is what the code left of b, and r what it told
-module _ (net b : List ℕ) (from n : ℕ) where
-  module _ (r : ℕ) (x : List ℕ) (told : r ≡ short_place net from b n) (left : x ≡ taken net from b n) where
-    pub took : n ≤ r → x ≡ put_words (mark_at 0) n (after_taking net from b) b
+-- x is what the code left of b
+module _ (ws b : List ℕ) (x : List ℕ) where
+  module _ (left : x ≡ taken ws 0 b (length ws)) where
+    pub took : FoundBelow (length ws) (short_place ws 0 b (length ws)) None → x ≡ put_words (mark_at 0) (length ws) (after_taking ws 0 b) b
     unfolding taken
-    took u = left ∙ rw (short_none net from b n r told u)
+    took none = left ∙ rw (eq-eqb (short_place ws 0 b (length ws)) (length ws) none)
 
-    pub took-nothing : r < n → x ≡ b
+    pub took-nothing : (p : ℕ) → FoundBelow (length ws) (short_place ws 0 b (length ws)) (Some p) → x ≡ b
     unfolding taken
-    took-nothing l = left ∙ rw (short-some net from b n r told l)
+    took-nothing p found = left ∙ rw (ne_eqb (short_place ws 0 b (length ws)) (length ws) (λ e. omega (arith, found)))
 
-  module _ (r : Bool) (x : List ℕ) (tested : r ≡ is_roomy net from b n) (left : x ≡ given net from b n) where
-    pub gave : r ≡ true → x ≡ put_words (mark_at 0) n (after_giving net from b) b
+  module _ (left : x ≡ given ws 0 b (length ws)) where
+    pub gave : is_roomy ws 0 b (length ws) ≡ true → x ≡ put_words (mark_at 0) (length ws) (after_giving ws 0 b) b
     unfolding given
-    gave e = left ∙ rw (passed tested e)
+    gave e = left ∙ rw e
 
-    pub gave-nothing : r ≡ false → x ≡ b
+    pub gave-nothing : is_roomy ws 0 b (length ws) ≡ false → x ≡ b
     unfolding given
-    gave-nothing e = left ∙ rw (failed tested e)
+    gave-nothing e = left ∙ rw e
 
--- the weights w stand in the net from `from` on
-module _ (net : List ℕ) (shape : Shape) (b : List ℕ) (f : Framed net shape b) (from : ℕ) (w : ℕ → ℕ)
-    (right : (p : ℕ) → byte net (from + p) ≡ w p) where
+-- ws are the weights w
+module _ (net : List ℕ) (shape : Shape) (b : List ℕ) (f : Framed net shape b) (w : ℕ → ℕ) (ws : List ℕ) (are : AreWeights shape.places w ws) where
   abbrev places_are : shape.places ≡ (net_of net).places
   places_are = f.net_framed.has_shape.places_are
 
-  pub covered-is : eqb (short_place net from b shape.places) shape.places ≡ does_cover (net_of net) (stored net b) w
+  covered-is : eqb (short_place ws 0 b (length ws)) (length ws) ≡ does_cover (net_of net) (stored net b) w
   unfolding short_place
-  covered-is = lowest-all (is_short net from b) shape.places ∙ covers-is net shape b f from w right
+  covered-is = rw are.0 (lowest-all (is_short ws 0 b) shape.places ∙ covers-is net shape b f w ws are)
 
-  pub roomy-is : is_roomy net from b shape.places ≡ has_room (net_of net) (stored net b) w
+  -- the marking covers them where no place is found to be short
+  pub covers : FoundBelow (length ws) (short_place ws 0 b (length ws)) None → does_cover (net_of net) (stored net b) w ≡ true
+  covers none = sym covered-is ∙ eq-eqb (short_place ws 0 b (length ws)) (length ws) none
+
+  pub covers-not : (p : ℕ) → FoundBelow (length ws) (short_place ws 0 b (length ws)) (Some p) → does_cover (net_of net) (stored net b) w ≡ false
+  covers-not p found = sym covered-is ∙ ne_eqb (short_place ws 0 b (length ws)) (length ws) (λ e. omega (arith, found))
+
+  pub roomy-is : is_roomy ws 0 b (length ws) ≡ has_room (net_of net) (stored net b) w
   unfolding is_roomy
   roomy-is =
-      tells-same (all-tells shape.places (λ p. held_tells (word b (mark_at p) + byte net (from + p)))) (has-room-tells (net_of net) (stored net b) w)
-      (λ g p l. let h : p < shape.places = omega (arith, places_are) in omega (arith, g p h, mark-stands net shape b f p h, right p))
-      (λ g p l. omega (arith, g p (omega (arith, places_are)), mark-stands net shape b f p l, right p))
+      tells-same (all-tells (length ws) (λ p. held_tells (word b (mark_at p) + byte ws (0 + p)))) (has-room-tells (net_of net) (stored net b) w)
+      (λ g p l. let h : p < shape.places = omega (arith, places_are) in omega (arith, are.0, g p (omega (arith, are.0)), mark-stands net shape b f p h, same ws p (0 + p) p (omega arith), are.1 p h))
+      (λ g p l. let h : p < shape.places = omega (arith, are.0) in omega (arith, g p (omega (arith, places_are)), mark-stands net shape b f p h, same ws p (0 + p) p (omega arith), are.1 p h))
 
 -- every place has room for its weight
-pub roomy-each : (net : List ℕ) (from : ℕ) (b : List ℕ) (n : ℕ) → is_roomy net from b n ≡ true
-    → (p : ℕ) → p < n → Held (word b (mark_at p) + byte net (from + p))
+pub roomy-each : (ws b : List ℕ) (n : ℕ) → is_roomy ws 0 b n ≡ true → (p : ℕ) → p < n → Held (word b (mark_at p) + byte ws (0 + p))
 unfolding is_roomy
-roomy-each net from b n e = holds (all-tells n (λ p. held_tells (word b (mark_at p) + byte net (from + p)))) e
+roomy-each ws b n e = holds (all-tells n (λ p. held_tells (word b (mark_at p) + byte ws (0 + p)))) e

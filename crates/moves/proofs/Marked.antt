@@ -1,18 +1,13 @@
 -- Markings written place by place: a place whose weight is 0 is as good as written, and what is set back stands as it stood.
 -- Assumes nothing.
 use mathlib.Core.Path.{◌≡◌, sym, ap, ◌∙◌}
-use mathlib.Core.Bool.{Bool, true, false, cond}
 use mathlib.Core.List.{List}
 use Prim.Native.Nat.{ℕ, zero, suc, ◌<◌, ◌≤◌}
 use native.Mathlib.Omega.{arith}
-use lib.ListN.{length}
-use Rattle.model.specs.Tab.{all}
 use Rattle.model.proofs.Tab.{at-or-below}
-use Rattle.model.proofs.Alls.{all-stop}
 use Rattle.forms.specs.Word.{Bytes, word, set_word, put_words}
 use Rattle.forms.specs.Places.{mark_at}
-use Rattle.forms.proofs.WordLaws.{word-put_words, word-put_words-behind, set_word-own, put_words-set_word, put_words-put_words, put_words-cong, put_words-own}
-use Rattle.owed.proofs.Passing.{all-on}
+use Rattle.forms.proofs.WordLaws.{set_word-own, put_words-set_word, put_words-put_words, put_words-cong, put_words-own}
 
 -- the markings of the places from p up to r are written as they stand
 module _ (g : ℕ → ℕ) (s : List ℕ) (small : Bytes s) (p : ℕ) where

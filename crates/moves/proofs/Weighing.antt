@@ -218,5 +218,5 @@ module _ (ws s : List ℕ) where
       give-back small y back =
           let no : is_roomy ws 0 s (length ws) ≡ false = sym (roomy p h.0.1) ∙ ne_eqb p (length ws) (λ e. omega (arith, h.0.0)) in
           let again : y ≡ s = back-again (after_giving ws 0 s) (after_taking (take p ws) 0 x) s x p _ small gave (front-length ws p (omega (arith, h.0.0)))
-              (λ q l. omega (arith, give-word q l, same (take p ws) q (0 + q) q (omega arith), front-byte ws p (omega (arith, h.0.0)) q l)) y back in
+          (λ q l. omega (arith, give-word q l, same (take p ws) q (0 + q) q (omega arith), front-byte ws p (omega (arith, h.0.0)) q l)) y back in
           (sym no, rw no again)

@@ -1,6 +1,6 @@
 -- The marking when the weights that stand in the net from `from` on leave it, and when they join it: over bytes, as the loops write them.
 -- Assumes nothing.
-use Rattle.std.specs.Prelude.{◌≡◌, Bool, true, false, not, cond, List, ℕ, ◌+◌, ◌-◌, ◌<◌, length, eqb, Option, Some, None}
+use Rattle.std.specs.Prelude.{◌≡◌, Bool, false, cond, List, ℕ, ◌+◌, ◌-◌, ◌<◌, length, eqb, Option, Some, None}
 use Rattle.model.specs.Tab.{all, lowest}
 use Rattle.model.specs.Limits.{is_held}
 use Rattle.forms.specs.Word.{byte, word, put_words}

@@ -1,9 +1,11 @@
 // Starts and ends of a transition that the order of the step permits (`order`), done (12; 13, 14; 15, 16, 17) and taken back (12; 24, 25; 15,
 // 26, 27). For these it is all one whether a start has happened in the step.
-ghost use Rattle.std.specs.Prelude.{◌≡◌, true, false, ◌<◌};
+ghost use Rattle.std.specs.Prelude.{◌≡◌, true, false, ◌+◌, ◌<◌, ◌≤◌, length};
 ghost use Rattle.model.specs.declared.event.Event.TheVariants as event;
 ghost use Rattle.model.specs.Rules.{answer_of, is_timely, has_no_old_end_owed};
-ghost use Rattle.forms.specs.Word.{byte};
+ghost use Rattle.model.specs.Age.{column_of};
+ghost use Rattle.forms.specs.Word.{byte, set_word};
+ghost use Rattle.forms.specs.Places.{count_at};
 ghost use Rattle.forms.specs.Stored.{net_of, stored};
 ghost use Rattle.forms.specs.Nets.{IsNet};
 ghost use Rattle.forms.specs.Frame.{Framed};
@@ -47,11 +49,7 @@ pub fn start(net: &[u8], shape: Net, state: &mut [u8], t: usize) -> Result<(), R
     if let Some(p) = marking::take(weights::inputs(net, shape, t), state) {
         return Err(Refusal::NotEnabled(starts::short(net, shape, state, t, p)));
     }
-    words::write16(
-        state,
-        places::count_at(shape, t, Age(0).column()),
-        running + 1,
-    );
+    set_count(shape, state, t, Age(0), running + 1);
     Ok(())
 }
 
@@ -72,11 +70,7 @@ pub fn unstart(net: &[u8], shape: Net, state: &mut [u8], t: usize) -> Result<(),
     if !marking::give(weights::inputs(net, shape, t), state) {
         return Err(Refusal::OnlyBack(Barrier::PlaceOverfull));
     }
-    words::write16(
-        state,
-        places::count_at(shape, t, Age(0).column()),
-        running - 1,
-    );
+    set_count(shape, state, t, Age(0), running - 1);
     Ok(())
 }
 
@@ -99,7 +93,7 @@ pub fn end(net: &[u8], shape: Net, state: &mut [u8], t: usize, age: Age) -> Resu
     if !marking::give(weights::outputs(net, shape, t), state) {
         return Err(Refusal::PlaceFull);
     }
-    words::write16(state, places::count_at(shape, t, age.column()), running - 1);
+    set_count(shape, state, t, age, running - 1);
     Ok(())
 }
 
@@ -128,6 +122,15 @@ pub fn unend(net: &[u8], shape: Net, state: &mut [u8], t: usize, age: Age) -> Re
     if marking::take(given, state).is_some() {
         return Err(Refusal::OnlyBack(Barrier::TooFewTokens));
     }
-    words::write16(state, places::count_at(shape, t, age.column()), running + 1);
+    set_count(shape, state, t, age, running + 1);
     Ok(())
+}
+
+// So many firings of transition t are of this age.
+fn set_count(shape: Net, state: &mut [u8], t: usize, age: Age, count: usize)
+    requires limits { (shape.places < 256) × (shape.width ≤ 256) × (t < 256) × (count < 65536) }
+    requires inside { count_at shape.places shape.width t (column_of age) + 1 < length state.old }
+    ensures { state.new ≡ set_word state.old (count_at shape.places shape.width t (column_of age)) count }
+{
+    words::write16(state, places::count_at(shape, t, age.column()), count);
 }

@@ -47,7 +47,7 @@ use Rattle.owed.proofs.report.report.Reads as report
 use Rattle.owed.proofs.report.report.Kinds as report-kinds
 
 -- what is found is one
-found-once : (n p : ℕ) (r s : Option ℕ) → FoundBelow n p r → FoundBelow n p s → r ≡ s
+pub found-once : (n p : ℕ) (r s : Option ℕ) → FoundBelow n p r → FoundBelow n p s → r ≡ s
 found-once n p None None f g = refl
 found-once n p None (Some y) f g = absurd (omega arith)
 found-once n p (Some x) None f g = absurd (omega arith)

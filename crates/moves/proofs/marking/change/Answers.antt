@@ -1,5 +1,5 @@
 -- `marking::change` meets its contract.
-use Rattle.std.proofs.Common.{◌≡◌, refl, sym, ap, ◌∙◌, arith}
+use Rattle.std.proofs.Common.{◌≡◌, refl, ap, ◌∙◌, arith}
 use Rattle.model.proofs.Alls.{all-begin}
 use Rattle.forms.specs.Word.{word, set_word}
 use Rattle.forms.specs.Places.{mark_at}
@@ -36,11 +36,11 @@ loop-p-preserved g c =
       long = rw wrote (length-set_word _ _ _) ∙ c.loop-p.invariant.long;
       small = c.loop-p.invariant.small;
       stand = λ q u.
-      rw wrote (word_after c.loop-p.state (mark_at c.in-Some.p) c.in-Some-to.marking (mark_at q) (omega (arith, next.5)))
-      ∙ c.loop-p.invariant.stand q (omega (arith, next.0, next.5));
+          rw wrote (word_after c.loop-p.state (mark_at c.in-Some.p) c.in-Some-to.marking (mark_at q) (omega (arith, next.5)))
+          ∙ c.loop-p.invariant.stand q (omega (arith, next.0, next.5));
       passed = λ fails becomes h.
-      change-turn _ _ _ c.loop-p.invariant.small fails becomes h _ _ (c.loop-p.invariant.passed fails becomes h) c.in-Some.p next.0 (omega (arith, next.1)) next.4
-      c.read16.result c.in-Some.weight marking next.2 next.1 c.in-Some-to.marking c.in-Some-to.ensures c.write16.new.s wrote _ next.5;
+          change-turn _ _ _ c.loop-p.invariant.small fails becomes h _ _ (c.loop-p.invariant.passed fails becomes h) c.in-Some.p next.0 (omega (arith, next.1)) next.4
+          c.read16.result c.in-Some.weight marking next.2 next.1 c.in-Some-to.marking c.in-Some-to.ensures c.write16.new.s wrote _ next.5;
     }
 
 pub returns : goal.returns

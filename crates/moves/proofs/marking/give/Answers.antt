@@ -1,8 +1,7 @@
 -- `marking::give` meets its contract.
-use Rattle.std.proofs.Common.{◌≡◌, ◌+◌, cond, not, Some, None, length, sym, rules, tests, arith}
+use Rattle.std.proofs.Common.{not, length, sym, rules, tests, arith}
 use Rattle.model.specs.Limits.{is_held}
-use Rattle.forms.specs.Word.{Bytes, byte, word}
-use Rattle.forms.specs.Places.{mark_at}
+use Rattle.forms.specs.Word.{Bytes}
 use Rattle.moves.specs.Marking.{Changed, after_giving}
 use Rattle.moves.proofs.Weighing.{front-length, give-told, give-stays, give-all, give-had, give-back}
 use Rattle.moves.proofs.marking.give.Goals as goal

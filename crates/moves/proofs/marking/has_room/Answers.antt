@@ -1,5 +1,5 @@
 -- `marking::has_room` meets its contract.
-use Rattle.std.proofs.Common.{refl, rules, tests, arith}
+use Rattle.std.proofs.Common.{refl, rules, tests}
 use native.Mathlib.Nat.{zero-add}
 use Rattle.model.proofs.Ranges.{all-below}
 use Rattle.moves.specs.Marking.{is_roomy}

@@ -3,7 +3,7 @@ use Rattle.std.proofs.Common.{◌≡◌, ◌≤◌, ◌-◌, length, sym, rules,
 use Rattle.forms.specs.Word.{Bytes, byte, word}
 use Rattle.forms.specs.Places.{mark_at}
 use Rattle.owed.specs.Marks.{is_short, short_place}
-use Rattle.moves.proofs.Weighing.{front-length, front-byte}
+use Rattle.moves.proofs.Weighing.{front-length}
 use Rattle.moves.specs.Marking.{Changed, after_taking}
 use Rattle.moves.proofs.Weighing.{take-told, take-stays, take-all, take-held, take-back}
 use Rattle.moves.proofs.marking.take.Goals as goal
