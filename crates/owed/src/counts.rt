@@ -4,9 +4,9 @@ ghost use Rattle.model.specs.Net.{count as count_of};
 ghost use Rattle.model.specs.Rules.{has_no_end_owed, owes_no_old_end, has_no_old_end_owed, has_none_fresh, has_nothing_running};
 ghost use Rattle.forms.specs.Word.{byte};
 ghost use Rattle.forms.specs.Stored.{net_of, stored};
-ghost use Rattle.forms.specs.Frame.{Framed};
+ghost use Rattle.forms.specs.Frame.{FramedNet, Framed};
 
-use forms::{net, places, words};
+use forms::{places, words};
 use model::age::Age;
 use model::net::Net;
 
@@ -19,13 +19,22 @@ pub fn count(net: &[u8], shape: Net, state: &[u8], t: usize, age: Age) -> usize
     words::read16(state, places::count_at(shape, t, age.column()))
 }
 
+// The age at which a firing of transition t must end: its lfd, which is found by the shape in hand, and not by the net's own bytes each time.
+fn last_age(net: &[u8], shape: Net, t: usize) -> Age
+    requires framed_net { FramedNet net.now shape }
+    requires t_bound { t < byte net.now 6 }
+    ensures { result.0 ≡ (net_of net.now).lfd t }
+{
+    Age(net[places::lfd_at(shape.places, t)])
+}
+
 // How many firings of transition t must end: those at its lfd.
 pub fn due(net: &[u8], shape: Net, state: &[u8], t: usize) -> usize
     requires framed { Framed net.now shape state.now }
     requires t_bound { t < byte net.now 6 }
     ensures { (result ≡ count_of (stored net.now state.now) t ((net_of net.now).lfd t)) × (result < 65536) }
 {
-    count(net, shape, state, t, Age(net::lfd(net, t) as u8))
+    count(net, shape, state, t, last_age(net, shape, t))
 }
 
 // No count stands at its transition's lfd.
@@ -43,7 +52,7 @@ fn owes_no_old_end(net: &[u8], shape: Net, state: &[u8], t: usize) -> bool
     requires t_bound { t < byte net.now 6 }
     ensures { result ≡ owes_no_old_end (net_of net.now) (stored net.now state.now) t }
 {
-    due(net, shape, state, t) == 0 || net::lfd(net, t) == 0
+    due(net, shape, state, t) == 0 || last_age(net, shape, t).0 == 0
 }
 
 // No end of age 1 or more is owed.
