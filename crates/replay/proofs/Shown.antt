@@ -99,14 +99,14 @@ late-shows =
     (kept 5 (omega arith) ∙ h.places_are) (kept 6 (omega arith) ∙ h.transitions_are) (kept 7 (omega arith) ∙ h.width_is))
 
 -- what a program knows behind a replay
-pub late-shown : (input state : List ℕ) (r : Replayed) (left : List ℕ) → r ≡ replayed input state → left ≡ replay_left input state
+pub late_shown : (input state : List ℕ) (r : Replayed) (left : List ℕ) → r ≡ replayed input state → left ≡ replay_left input state
     → LateShown r.number left
-late-shown input state r left told leaves late =
+late_shown input state r left told leaves late =
     rw leaves (shown input state (ap (λ (x : Replayed). is_early x.number) (sym told) ∙ late))
 
 -- the cells that are looked at can be read
-pub late-reads : (number : ℕ) (state : List ℕ) → LateShown number state → Reads state (cells_shown number state)
-late-reads number state is = by-test (is_early number) refl
+pub late_reads : (number : ℕ) (state : List ℕ) → LateShown number state → Reads state (cells_shown number state)
+late_reads number state is = by-test (is_early number) refl
   where
     by-test : (x : Bool) → is_early number ≡ x → Reads state (cells_shown number state)
     by-test true e = rw e Reads.nothing
