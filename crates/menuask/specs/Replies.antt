@@ -1,12 +1,14 @@
 -- What is answered to each request (docs/ASK.md): the call's name, the numbers that it tells, and a buffer that it may write, whole.
 -- Assumes nothing.
-use Rattle.std.specs.Prelude.{cond, List, [], ◌∷◌, ℕ, ◌+◌, eqb}
+use Rattle.std.specs.Prelude.{Bool, codes, List, [], ◌∷◌, ℕ, ◌+◌}
 use Rattle.text.specs.Lines.{buffer_most, line_most, Line}
 use Rattle.engine.specs.Calls.{net_told, state_told, initial_told, initial_left, event_told, event_left, back_told, back_left}
 use Rattle.engine.specs.Calls.{degree_told, owed_told, run_told, run_left, walk_told, walk_left, step_told}
 use Rattle.runner.specs.Call.{page_told, state_left, log_left}
 use Rattle.balance.specs.Told.{balance_told}
-use Rattle.menu.specs.Fields.{said_started, verdict_fields, event_fields, degree_fields, owed_fields, run_fields, walk_fields, step_fields, page_fields, balance_fields}
+use Rattle.menuask.specs.declared.call.Call.{Call}
+use Rattle.menuask.specs.declared.call.Call.TheVariants as call
+use Rattle.menu.specs.Fields.{verdict_fields, event_fields, degree_fields, owed_fields, run_fields, walk_fields, step_fields, page_fields, balance_fields}
 
 -- the parts of a line
 pub record Reply : Type 0 where
@@ -26,118 +28,78 @@ shows name numbers left = record { name = name; numbers = numbers; buffers = lef
 abbrev pub shows_both : List ℕ → List ℕ → List ℕ → List ℕ → Reply
 shows_both name numbers state log = record { name = name; numbers = numbers; buffers = state ∷ log ∷ [] }
 
--- THE NAMES, IN ASCII
-
-abbrev pub check_net_name : List ℕ
-check_net_name = 99 ∷ 104 ∷ 101 ∷ 99 ∷ 107 ∷ 95 ∷ 110 ∷ 101 ∷ 116 ∷ []
-
-abbrev pub initial_name : List ℕ
-initial_name = 105 ∷ 110 ∷ 105 ∷ 116 ∷ 105 ∷ 97 ∷ 108 ∷ []
-
-abbrev pub check_state_name : List ℕ
-check_state_name = 99 ∷ 104 ∷ 101 ∷ 99 ∷ 107 ∷ 95 ∷ 115 ∷ 116 ∷ 97 ∷ 116 ∷ 101 ∷ []
-
-abbrev pub event_name : List ℕ
-event_name = 101 ∷ 118 ∷ 101 ∷ 110 ∷ 116 ∷ []
-
-abbrev pub back_name : List ℕ
-back_name = 98 ∷ 97 ∷ 99 ∷ 107 ∷ []
-
-abbrev pub degree_name : List ℕ
-degree_name = 100 ∷ 101 ∷ 103 ∷ 114 ∷ 101 ∷ 101 ∷ []
-
-abbrev pub owed_name : List ℕ
-owed_name = 111 ∷ 119 ∷ 101 ∷ 100 ∷ []
-
-abbrev pub run_name : List ℕ
-run_name = 114 ∷ 117 ∷ 110 ∷ []
-
-abbrev pub walk_name : List ℕ
-walk_name = 119 ∷ 97 ∷ 108 ∷ 107 ∷ []
-
-abbrev pub step_name : List ℕ
-step_name = 115 ∷ 116 ∷ 101 ∷ 112 ∷ []
-
-abbrev pub page_name : List ℕ
-page_name = 112 ∷ 97 ∷ 103 ∷ 101 ∷ []
-
-abbrev pub balance_name : List ℕ
-balance_name = 98 ∷ 97 ∷ 108 ∷ 97 ∷ 110 ∷ 99 ∷ 101 ∷ []
-
 -- THE REPLIES
 
 abbrev pub check_net_reply : List ℕ → Reply
-check_net_reply net = tells check_net_name (verdict_fields (net_told net))
+check_net_reply net = tells (codes "check_net") (verdict_fields (net_told net))
 
 abbrev pub initial_reply : List ℕ → List ℕ → Reply
-initial_reply net state = shows initial_name (verdict_fields (initial_told net state)) (initial_left net state)
+initial_reply net state = shows (codes "initial") (verdict_fields (initial_told net state)) (initial_left net state)
 
 abbrev pub check_state_reply : List ℕ → List ℕ → Reply
-check_state_reply net state = tells check_state_name (verdict_fields (state_told net state))
+check_state_reply net state = tells (codes "check_state") (verdict_fields (state_told net state))
 
-abbrev pub event_reply : List ℕ → List ℕ → ℕ → ℕ → ℕ → Reply
+abbrev pub event_reply : List ℕ → List ℕ → ℕ → ℕ → Bool → Reply
 event_reply net state first second started =
-    shows event_name (event_fields (event_told net state first second (said_started started))) (event_left net state first second (said_started started))
+    shows (codes "event") (event_fields (event_told net state first second started)) (event_left net state first second started)
 
-abbrev pub back_reply : List ℕ → List ℕ → ℕ → ℕ → ℕ → Reply
+abbrev pub back_reply : List ℕ → List ℕ → ℕ → ℕ → Bool → Reply
 back_reply net state first second started =
-    shows back_name (verdict_fields (back_told net state first second (said_started started))) (back_left net state first second (said_started started))
+    shows (codes "back") (verdict_fields (back_told net state first second started)) (back_left net state first second started)
 
 abbrev pub degree_reply : List ℕ → List ℕ → ℕ → Reply
-degree_reply net state t = tells degree_name (degree_fields (degree_told net state t))
+degree_reply net state t = tells (codes "degree") (degree_fields (degree_told net state t))
 
 abbrev pub owed_reply : List ℕ → List ℕ → Reply
-owed_reply net state = tells owed_name (owed_fields (owed_told net state))
+owed_reply net state = tells (codes "owed") (owed_fields (owed_told net state))
 
-abbrev pub run_reply : List ℕ → List ℕ → List ℕ → ℕ → Reply
+abbrev pub run_reply : List ℕ → List ℕ → List ℕ → Bool → Reply
 run_reply net state log started =
-    shows run_name (run_fields (run_told net state log (said_started started))) (run_left net state log (said_started started))
+    shows (codes "run") (run_fields (run_told net state log started)) (run_left net state log started)
 
-abbrev pub walk_reply : List ℕ → List ℕ → List ℕ → ℕ → ℕ → Reply
+abbrev pub walk_reply : List ℕ → List ℕ → List ℕ → ℕ → Bool → Reply
 walk_reply net state log n started =
-    shows walk_name (walk_fields (walk_told net state log n (said_started started))) (walk_left net state log n (said_started started))
+    shows (codes "walk") (walk_fields (walk_told net state log n started)) (walk_left net state log n started)
 
 abbrev pub step_reply : List ℕ → ℕ → Reply
-step_reply log k = tells step_name (step_fields (step_told log k))
+step_reply log k = tells (codes "step") (step_fields (step_told log k))
 
 abbrev pub page_reply : List ℕ → List ℕ → List ℕ → ℕ → Reply
 page_reply net state log budget =
-    shows_both page_name (page_fields (page_told net state log budget)) (state_left net state log budget) (log_left net state log budget)
+    shows_both (codes "page") (page_fields (page_told net state log budget)) (state_left net state log budget) (log_left net state log budget)
 
 abbrev pub balance_reply : List ℕ → List ℕ → List ℕ → Reply
-balance_reply net state weights = tells balance_name (balance_fields (balance_told net state weights))
+balance_reply net state weights = tells (codes "balance") (balance_fields (balance_told net state weights))
 
--- by the byte that a request begins with: 1 to 12, for no other is answered (`asks_so` of Requests). The third slice is a log, the buffer for one,
--- or weights
-unfoldable pub reply_to : ℕ → ℕ → ℕ → ℕ → List ℕ → List ℕ → List ℕ → Reply
-reply_to kind first second started net state third =
-    cond (eqb kind 1) (check_net_reply net)
-    (cond (eqb kind 2) (initial_reply net state)
-    (cond (eqb kind 3) (check_state_reply net state)
-    (cond (eqb kind 4) (event_reply net state first second started)
-    (cond (eqb kind 5) (back_reply net state first second started)
-    (cond (eqb kind 6) (degree_reply net state first)
-    (cond (eqb kind 7) (owed_reply net state)
-    (cond (eqb kind 8) (run_reply net state third started)
-    (cond (eqb kind 9) (walk_reply net state third first started)
-    (cond (eqb kind 10) (step_reply third first)
-    (cond (eqb kind 11) (page_reply net state third first)
-    (balance_reply net state third)))))))))))
+-- the third slice is a log, the buffer for one, or weights
+abbrev pub reply_to : Call → List ℕ → List ℕ → List ℕ → Reply
+reply_to call.CheckNet net state third = check_net_reply net
+reply_to call.Initial net state third = initial_reply net state
+reply_to call.CheckState net state third = check_state_reply net state
+reply_to (call.Event first second started) net state third = event_reply net state first second started
+reply_to (call.Back first second started) net state third = back_reply net state first second started
+reply_to (call.Degree transition) net state third = degree_reply net state transition
+reply_to call.Owed net state third = owed_reply net state
+reply_to (call.Run started) net state third = run_reply net state third started
+reply_to (call.Walk events started) net state third = walk_reply net state third events started
+reply_to (call.Step step) net state third = step_reply third step
+reply_to (call.Page budget) net state third = page_reply net state third budget
+reply_to call.Balance net state third = balance_reply net state third
 
 -- what the state's buffer holds afterwards
-unfoldable pub left_by : ℕ → ℕ → ℕ → ℕ → List ℕ → List ℕ → List ℕ → List ℕ
-left_by kind first second started net state third =
-    cond (eqb kind 2) (initial_left net state)
-    (cond (eqb kind 4) (event_left net state first second (said_started started))
-    (cond (eqb kind 5) (back_left net state first second (said_started started))
-    (cond (eqb kind 8) (run_left net state third (said_started started))
-    (cond (eqb kind 9) (walk_left net state third first (said_started started))
-    (cond (eqb kind 11) (state_left net state third first)
-    state)))))
+abbrev pub left_by : Call → List ℕ → List ℕ → List ℕ → List ℕ
+left_by call.Initial net state third = initial_left net state
+left_by (call.Event first second started) net state third = event_left net state first second started
+left_by (call.Back first second started) net state third = back_left net state first second started
+left_by (call.Run started) net state third = run_left net state third started
+left_by (call.Walk events started) net state third = walk_left net state third events started
+left_by (call.Page budget) net state third = state_left net state third budget
+left_by _ net state third = state
 
 -- and the third slice's
-unfoldable pub third_by : ℕ → ℕ → List ℕ → List ℕ → List ℕ → List ℕ
-third_by kind first net state third = cond (eqb kind 11) (log_left net state third first) third
+abbrev pub third_by : Call → List ℕ → List ℕ → List ℕ → List ℕ
+third_by (call.Page budget) net state third = log_left net state third budget
+third_by _ net state third = third
 
 -- the line of a reply stands at the buffer's front
 abbrev pub Replied : Reply → List ℕ → List ℕ → ℕ → Type 0

@@ -1,7 +1,10 @@
 -- What a request has behind its first byte, which says the call (docs/ASK.md).
 -- Assumes nothing.
-use Rattle.std.specs.Prelude.{Bool, not, ◌&&◌, ◌||◌, cond, ℕ, eqb, leb}
-use Rattle.menuask.specs.declared.request.Parts.{Parts}
+use Rattle.std.specs.Prelude.{Bool, List, ◌++◌, ℕ, length}
+use Rattle.std.specs.Int.{w32, to_be_bytes}
+use Rattle.model.specs.Tab.{one_if}
+use Rattle.menuask.specs.declared.call.Call.{Call}
+use Rattle.menuask.specs.declared.call.Call.TheVariants as call
 
 -- a net or a state of a request has at most so many bytes: more than any lawful one, so that longer ones can be asked about
 abbrev pub slice_most : ℕ
@@ -11,32 +14,50 @@ slice_most = 16384
 abbrev pub third_most : ℕ
 third_most = 65536
 
--- the byte is one of these
-unfoldable pub is_within : ℕ → ℕ → ℕ → Bool
-is_within kind least most = leb least kind && leb kind most
+-- the byte that a request for a call begins with
+abbrev pub code_of : Call → ℕ
+code_of call.CheckNet = 1
+code_of call.Initial = 2
+code_of call.CheckState = 3
+code_of (call.Event first second started) = 4
+code_of (call.Back first second started) = 5
+code_of (call.Degree transition) = 6
+code_of call.Owed = 7
+code_of (call.Run started) = 8
+code_of (call.Walk events started) = 9
+code_of (call.Step step) = 10
+code_of (call.Page budget) = 11
+code_of call.Balance = 12
 
--- and it asks for no step, which has a log alone
-unfoldable pub is_within_but_step : ℕ → ℕ → ℕ → Bool
-is_within_but_step kind least most = not (eqb kind 10) && is_within kind least most
+-- a number: four bytes, the highest first
+abbrev pub number_bytes : ℕ → List ℕ
+number_bytes n = to_be_bytes w32 n
 
--- two numbers, the bytes of an event; or one: a transition, a number of events, of a step, or a budget
-abbrev pub numbers_of : ℕ → ℕ
-numbers_of kind = cond (is_within kind 4 5) 2 (cond (is_within kind 6 6) 1 (cond (is_within kind 9 11) 1 0))
+-- whether a start has happened in the step: 1 or 0
+abbrev pub flag_bytes : Bool → List ℕ
+flag_bytes started = number_bytes (one_if started)
 
--- and whether a start has happened in the step, for an event or its taking back, a run or a walk
-abbrev pub takes_fact : ℕ → Bool
-takes_fact kind = is_within kind 4 5 || is_within kind 8 9
+-- a slice: its length, and its bytes
+abbrev pub slice_bytes : List ℕ → List ℕ
+slice_bytes slice = number_bytes (length slice) ++ slice
 
--- its slices and numbers, in this order
-abbrev pub parts_of : ℕ → Parts
-parts_of kind = record {
-  net = is_within_but_step kind 1 12;
-  state = is_within_but_step kind 2 12;
-  third = is_within kind 8 12;
-  numbers = numbers_of kind;
-  started = takes_fact kind;
-}
+abbrev pub both_bytes : List ℕ → List ℕ → List ℕ
+both_bytes net state = slice_bytes net ++ slice_bytes state
 
--- there is such a call, the bytes of an event are bytes, and whether a start has happened is said by 0 or 1
-abbrev pub asks_so : ℕ → ℕ → ℕ → ℕ → Bool
-asks_so kind first second started = leb started 1 && cond (is_within kind 4 5) (leb first 255 && leb second 255) (is_within kind 1 12)
+abbrev pub event_bytes : ℕ → ℕ → Bool → List ℕ
+event_bytes first second started = number_bytes first ++ number_bytes second ++ flag_bytes started
+
+-- and what stands behind it: the call's slices and numbers
+abbrev pub bytes_of : Call → List ℕ → List ℕ → List ℕ → List ℕ
+bytes_of call.CheckNet net state third = slice_bytes net
+bytes_of call.Initial net state third = both_bytes net state
+bytes_of call.CheckState net state third = both_bytes net state
+bytes_of (call.Event first second started) net state third = both_bytes net state ++ event_bytes first second started
+bytes_of (call.Back first second started) net state third = both_bytes net state ++ event_bytes first second started
+bytes_of (call.Degree transition) net state third = both_bytes net state ++ number_bytes transition
+bytes_of call.Owed net state third = both_bytes net state
+bytes_of (call.Run started) net state third = both_bytes net state ++ slice_bytes third ++ flag_bytes started
+bytes_of (call.Walk events started) net state third = both_bytes net state ++ slice_bytes third ++ number_bytes events ++ flag_bytes started
+bytes_of (call.Step step) net state third = slice_bytes third ++ number_bytes step
+bytes_of (call.Page budget) net state third = both_bytes net state ++ slice_bytes third ++ number_bytes budget
+bytes_of call.Balance net state third = both_bytes net state ++ slice_bytes third

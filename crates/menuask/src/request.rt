@@ -1,189 +1,216 @@
 // Requests, as docs/ASK.md sets them down, read part by part.
-ghost use Rattle.std.specs.Prelude.{◌≡◌, true, length, IfOk};
-ghost use Rattle.io.specs.Counts.{IsPrefixLen};
-ghost use Rattle.menuask.specs.Requests.{is_within, is_within_but_step, numbers_of, takes_fact, parts_of, asks_so};
+ghost use Rattle.std.specs.Prelude.{◌≡◌, ◌≤◌, ◌++◌, length, take, IfOk};
+ghost use Rattle.std.specs.Io.KnownBytes.{Consumes};
+ghost use Rattle.menuask.specs.declared.request.RequestError.TheVariants.{Failed};
+ghost use Rattle.menuask.specs.Requests.{slice_most, third_most, code_of, bytes_of, number_bytes, slice_bytes, both_bytes, flag_bytes};
 
-use forms::words;
+use crate::call::Call;
 use std::io;
 use std::io::Read;
 
-// What a request of some kind has, in this order: slices, so many numbers, and the number that says whether a start has happened in the step. The
-// third slice is a log, the buffer for one, or weights.
-#[derive(Clone, Copy)]
-pub struct Parts {
-    pub net: bool,
-    pub state: bool,
-    pub third: bool,
-    pub numbers: usize,
-    pub started: bool,
+// A net or a state of a request has at most so many bytes (docs/ASK.md): more than any lawful one.
+pub const SLICE_MOST: usize = 16384;
+
+// And the third slice so many: a log, the buffer for one, or weights.
+pub const THIRD_MOST: usize = 65536;
+
+// Room for the slices of a request, which stand at the front.
+#[derive(Drop)]
+pub struct Slices {
+    pub net: [u8; SLICE_MOST],
+    pub state: [u8; SLICE_MOST],
+    pub third: [u8; THIRD_MOST],
 }
 
-// A number, or the length of a slice; and whether the request is fine up to here: it was, and all of this part arrived and has room.
-#[derive(Clone, Copy)]
-pub struct Part {
-    pub fine: bool,
-    pub value: usize,
-}
-
-// The lengths of a request's slices, which stand at the front of their buffers, its numbers, and whether it is fine as a whole.
+// A call, and the lengths of the slices that it is asked with, which stand at the front of their buffers; 0 for one that it does not have. The third
+// slice is a log, the buffer for one, or weights.
 #[derive(Clone, Copy)]
 pub struct Request {
-    pub fine: bool,
+    pub call: Call,
     pub net: usize,
     pub state: usize,
     pub third: usize,
-    pub first: usize,
-    pub second: usize,
-    pub started: usize,
 }
 
-// The byte of a request is one of these.
-fn within(kind: u8, least: u8, most: u8) -> bool
-    ensures { result ≡ is_within kind least most }
-{
-    if kind < least {
-        return false;
-    }
-    kind <= most
-}
-
-// And it asks for no step, which has a log alone.
-fn within_but_step(kind: u8, least: u8, most: u8) -> bool
-    ensures { result ≡ is_within_but_step kind least most }
-{
-    if kind == 10 {
-        return false;
-    }
-    within(kind, least, most)
-}
-
-// How many numbers a request of this kind has before the one that says whether a start has happened: two for an event, one for a transition, a
-// number of events, a step or a budget.
-pub fn numbers(kind: u8) -> usize
-    ensures { result ≡ numbers_of kind }
-{
-    if within(kind, 4, 5) {
-        return 2;
-    }
-    if within(kind, 6, 6) {
-        return 1;
-    }
-    if within(kind, 9, 11) {
-        return 1;
-    }
-    0
-}
-
-// A request of this kind says whether a start has happened in the step: one for an event or its taking back, a run or a walk.
-pub fn takes_fact(kind: u8) -> bool
-    ensures { result ≡ takes_fact kind }
-{
-    if within(kind, 4, 5) {
-        return true;
-    }
-    within(kind, 8, 9)
-}
-
-// What a request of this kind has. One of an unknown kind has nothing.
-pub fn parts_of(kind: u8) -> Parts
-    ensures { result ≡ parts_of kind }
-{
-    Parts {
-        net: within_but_step(kind, 1, 12),
-        state: within_but_step(kind, 2, 12),
-        third: within(kind, 8, 12),
-        numbers: numbers(kind),
-        started: takes_fact(kind),
-    }
-}
-
-// There is a call of this kind, the bytes of an event are bytes, and whether a start has happened is said by 0 or 1.
-pub fn asks(kind: u8, first: usize, second: usize, started: usize) -> bool
-    ensures { result ≡ asks_so kind first second started }
-{
-    if 1 < started {
-        return false;
-    }
-    if within(kind, 4, 5) {
-        if 255 < first {
-            return false;
+impl Request {
+    fn new(call: Call, net: usize, state: usize, third: usize) -> Request
+        ensures { result ≡ record { call = call; net = net; state = state; third = third } }
+    {
+        Request {
+            call,
+            net,
+            state,
+            third,
         }
-        return second <= 255;
     }
-    within(kind, 1, 12)
 }
 
-// A number of four bytes, where one is asked for.
-fn number<R: Read>(from: &mut R, fine: bool, wanted: bool) -> io::Result<Part> {
-    if !fine || !wanted {
-        return Ok(Part { fine, value: 0 });
+// No request: it is bad, which is an unknown call, a slice that is too long, a number out of its range, or an input that ends within; or a read failed.
+#[derive(Drop)]
+pub enum RequestError {
+    Bad,
+    Failed(io::Error),
+}
+
+impl From<io::Error> for RequestError {
+    ghost from_gives = { λ e r. r ≡ Failed e };
+
+    fn from(e: io::Error) -> RequestError {
+        RequestError::Failed(e)
     }
+}
+
+// A number: four bytes.
+fn number<R: Read>(from: &mut R) -> Result<usize, RequestError>
+    ensures { IfOk result (λ n. Consumes (R.remaining from.old) (R.remaining from.new) (number_bytes n)) }
+{
     let mut four = [0u8; 4];
-    let arrived = streams::read_full(from, &mut four)?;
-    Ok(Part {
-        fine: arrived == 4,
-        value: words::read32(&four, 0),
-    })
+    if streams::read_full(from, &mut four)? < four.len() {
+        return Err(RequestError::Bad);
+    }
+    Ok(number_of(four))
 }
 
-// A slice, where one is asked for: its length, and as many bytes, put at the front of its buffer. One longer than the buffer is bad.
-fn slice<R: Read>(from: &mut R, fine: bool, wanted: bool, into: &mut [u8]) -> io::Result<Part>
-    ensures ok { IfOk result (λ part. IsPrefixLen part.value into.new) }
-    ensures into_len_unchanged { length into.new ≡ length into.old }
+fn number_of(four: [u8; 4]) -> usize
+    ensures { number_bytes result ≡ four }
 {
-    if !wanted {
-        return Ok(Part { fine, value: 0 });
-    }
-    let size = number(from, fine, true)?;
-    let n = size.value;
-    if !size.fine {
-        return Ok(Part {
-            fine: false,
-            value: 0,
-        });
-    }
-    if into.len() < n {
-        return Ok(Part {
-            fine: false,
-            value: 0,
-        });
-    }
-    let arrived = streams::read_full(from, &mut into[..n])?;
-    Ok(Part {
-        fine: arrived == n,
-        value: n,
-    })
+    u32::from_be_bytes(four) as usize
 }
 
-// What follows the kind of a request: its slices and numbers. A read that fails is the error; the buffers keep their lengths.
-pub fn read<R: Read>(
-    from: &mut R,
-    kind: u8,
-    net: &mut [u8],
-    state: &mut [u8],
-    third: &mut [u8],
-) -> io::Result<Request>
-    ensures prefix_len { IfOk result (λ request. IsPrefixLen request.net net.new) }
-    ensures prefix_len_2 { IfOk result (λ request. IsPrefixLen request.state state.new) }
-    ensures prefix_len_3 { IfOk result (λ request. IsPrefixLen request.third third.new) }
-    ensures started_value { IfOk result (λ request. request.fine ≡ true → asks_so kind request.first request.second request.started ≡ true) }
-    ensures len_unchanged { (length net.new ≡ length net.old) × (length state.new ≡ length state.old) × (length third.new ≡ length third.old) }
+// A slice: its length, and as many bytes, put at the front of the buffer.
+fn slice<R: Read>(from: &mut R, into: &mut [u8]) -> Result<usize, RequestError>
+    ensures in_bounds { IfOk result (λ n. n ≤ length into.new) }
+    ensures bytes { IfOk result (λ n. Consumes (R.remaining from.old) (R.remaining from.new) (slice_bytes (take n into.new))) }
+    ensures len_unchanged { length into.new ≡ length into.old }
 {
-    let has = parts_of(kind);
-    let nets = slice(from, true, has.net, net)?;
-    let states = slice(from, nets.fine, has.state, state)?;
-    let thirds = slice(from, states.fine, has.third, third)?;
-    let first = number(from, thirds.fine, 1 <= has.numbers)?;
-    let second = number(from, first.fine, 2 <= has.numbers)?;
-    let started = number(from, second.fine, has.started)?;
-    let fine = started.fine && asks(kind, first.value, second.value, started.value);
-    Ok(Request {
-        fine,
-        net: nets.value,
-        state: states.value,
-        third: thirds.value,
-        first: first.value,
-        second: second.value,
-        started: started.value,
-    })
+    let n = number(from)?;
+    if into.len() < n || streams::read_full(from, &mut into[..n])? < n {
+        return Err(RequestError::Bad);
+    }
+    Ok(n)
+}
+
+// Whether a start has happened in the step.
+fn flag(n: usize) -> Result<bool, RequestError>
+    ensures { IfOk result (λ started. flag_bytes started ≡ number_bytes n) }
+{
+    match n {
+        0 => Ok(false),
+        1 => Ok(true),
+        _ => Err(RequestError::Bad),
+    }
+}
+
+// The two bytes of an event, and whether a start has happened in the step. All three are read before they are looked at.
+fn event<R: Read>(from: &mut R) -> Result<(u8, u8, bool), RequestError>
+    ensures { IfOk result (λ r. Consumes (R.remaining from.old) (R.remaining from.new) (number_bytes r.0 ++ number_bytes r.1 ++ flag_bytes r.2)) }
+{
+    let first = number(from)?;
+    let second = number(from)?;
+    let started = number(from)?;
+    match (u8::try_from(first), u8::try_from(second)) {
+        (Ok(first), Ok(second)) => Ok((first, second, flag(started)?)),
+        _ => Err(RequestError::Bad),
+    }
+}
+
+// A net and a state.
+fn both<R: Read>(from: &mut R, slices: &mut Slices) -> Result<(usize, usize), RequestError>
+    ensures in_bounds { IfOk result (λ n. (n.0 ≤ slice_most) × (n.1 ≤ slice_most)) }
+    ensures bytes { IfOk result (λ n. Consumes (R.remaining from.old) (R.remaining from.new) (both_bytes (take n.0 slices.new.net) (take n.1 slices.new.state))) }
+    ensures third_after { slices.new.third ≡ slices.old.third }
+{
+    let net = slice(from, &mut slices.net)?;
+    let state = slice(from, &mut slices.state)?;
+    Ok((net, state))
+}
+
+// What follows the byte of a call: its slices and numbers. A read that fails is an error too.
+pub fn read<R: Read>(from: &mut R, code: u8, slices: &mut Slices) -> Result<Request, RequestError>
+    ensures call { IfOk result (λ request. code_of request.call ≡ code) }
+    ensures bytes { IfOk result (λ request. Consumes (R.remaining from.old) (R.remaining from.new)
+        (bytes_of request.call (take request.net slices.new.net) (take request.state slices.new.state) (take request.third slices.new.third))) }
+    ensures in_bounds { IfOk result (λ request. (request.net ≤ slice_most) × (request.state ≤ slice_most) × (request.third ≤ third_most)) }
+{
+    match code {
+        1 => {
+            let net = slice(from, &mut slices.net)?;
+            Ok(Request::new(Call::CheckNet, net, 0, 0))
+        }
+        2 => {
+            let (net, state) = both(from, slices)?;
+            Ok(Request::new(Call::Initial, net, state, 0))
+        }
+        3 => {
+            let (net, state) = both(from, slices)?;
+            Ok(Request::new(Call::CheckState, net, state, 0))
+        }
+        4 => {
+            let (net, state) = both(from, slices)?;
+            let (first, second, started) = event(from)?;
+            Ok(Request::new(
+                Call::Event {
+                    first,
+                    second,
+                    started,
+                },
+                net,
+                state,
+                0,
+            ))
+        }
+        5 => {
+            let (net, state) = both(from, slices)?;
+            let (first, second, started) = event(from)?;
+            Ok(Request::new(
+                Call::Back {
+                    first,
+                    second,
+                    started,
+                },
+                net,
+                state,
+                0,
+            ))
+        }
+        6 => {
+            let (net, state) = both(from, slices)?;
+            let transition = number(from)?;
+            Ok(Request::new(Call::Degree { transition }, net, state, 0))
+        }
+        7 => {
+            let (net, state) = both(from, slices)?;
+            Ok(Request::new(Call::Owed, net, state, 0))
+        }
+        8 => {
+            let (net, state) = both(from, slices)?;
+            let third = slice(from, &mut slices.third)?;
+            let started = flag(number(from)?)?;
+            Ok(Request::new(Call::Run { started }, net, state, third))
+        }
+        9 => {
+            let (net, state) = both(from, slices)?;
+            let third = slice(from, &mut slices.third)?;
+            let events = number(from)?;
+            let started = flag(number(from)?)?;
+            Ok(Request::new(Call::Walk { events, started }, net, state, third))
+        }
+        10 => {
+            let third = slice(from, &mut slices.third)?;
+            let step = number(from)?;
+            Ok(Request::new(Call::Step { step }, 0, 0, third))
+        }
+        11 => {
+            let (net, state) = both(from, slices)?;
+            let third = slice(from, &mut slices.third)?;
+            let budget = number(from)?;
+            Ok(Request::new(Call::Page { budget }, net, state, third))
+        }
+        12 => {
+            let (net, state) = both(from, slices)?;
+            let third = slice(from, &mut slices.third)?;
+            Ok(Request::new(Call::Balance, net, state, third))
+        }
+        _ => Err(RequestError::Bad),
+    }
 }

@@ -10,7 +10,7 @@ ghost use Rattle.pageshow.specs.Built.{enough};
 ghost use Rattle.pageshow.specs.Sheet.{stop_most, longest_log};
 
 use forms::places;
-use pageshow::arguments::{Asked, Wish};
+use pageshow::arguments::Wish;
 use pageshow::{arguments, sheet};
 use std::env::Env;
 use std::io;
@@ -32,14 +32,13 @@ fn usage<W: Write>(to: &mut W) -> io::Result<()> {
 }
 
 // Takes the words behind the program's own name.
-fn take_arguments<E: Env>(env: &E) -> Asked {
+fn take_arguments<E: Env>(env: &E) -> Option<Wish> {
     let mut first = [0u8; WORD_MOST];
     let mut second = [0u8; WORD_MOST];
     let m = env.arg(1, &mut first).unwrap_or(0);
     let n = env.arg(2, &mut second).unwrap_or(0);
     let count = streams::argument_count(env);
-    let words = if 0 < count { count - 1 } else { 0 };
-    arguments::read(words, &first[..m], &second[..n])
+    arguments::read(count.saturating_sub(1), &first[..m], &second[..n])
 }
 
 // Builds the page of what arrives, and prints what came of it: the lines, or with `--log` the log, and the lines aside.
@@ -92,10 +91,7 @@ fn serve(rt: &HostRuntime, wish: Wish) -> io::Result<()> {
 
 fn main(rt: HostRuntime) -> io::Result<()> {
     match take_arguments(&rt) {
-        Asked::Page(wish) => serve(&rt, wish),
-        Asked::Misuse => {
-            let mut stderr = rt.stderr();
-            usage(&mut stderr)
-        }
+        Some(wish) => serve(&rt, wish),
+        None => usage(&mut rt.stderr()),
     }
 }

@@ -3,6 +3,7 @@
 use mathlib.Core.Path.{◌≡◌, sym, ◌∙◌}
 use mathlib.Core.List.{List, [], ◌∷◌}
 use Prim.Native.Nat.{ℕ}
+use Rattle.std.specs.Prelude.{Option}
 use Rattle.model.proofs.Determined.{Determined, LeavesOne}
 use Rattle.text.proofs.Determined.{line-once}
 use Rattle.replay.specs.declared.input.Replayed.{Replayed}
@@ -14,6 +15,8 @@ use Rattle.pageshow.proofs.arguments.read.Reads as read
 use Rattle.pageshow.proofs.arguments.read.Kinds as read-kinds
 use Rattle.pageshow.proofs.build.net_length.Reads as net-length
 use Rattle.pageshow.proofs.build.net_length.Kinds as net-length-kinds
+use Rattle.pageshow.proofs.build.BuiltFromVerdict.from.Reads as from-verdict
+use Rattle.pageshow.proofs.build.BuiltFromVerdict.from.Kinds as from-verdict-kinds
 use Rattle.pageshow.proofs.build.build.Reads as build
 use Rattle.pageshow.proofs.build.build.Kinds as build-kinds
 use Rattle.pageshow.proofs.sheet.first.Reads as first
@@ -24,6 +27,9 @@ read-determined κs args x y s s' p q = p ∙ sym q
 
 pub net-length-determined : Determined 1 net-length-kinds.ps net-length-kinds.r net-length.Learnt
 net-length-determined κs args x y s s' p q = p.0 ∙ sym q.0
+
+pub from-verdict-determined : Determined 0 from-verdict-kinds.ps from-verdict-kinds.r from-verdict.Learnt
+from-verdict-determined κs args x y s s' p q = p ∙ sym q
 
 pub build-determined : Determined 3 build-kinds.ps build-kinds.r build.Learnt
 build-determined κs args x y s s' p q = p.0 ∙ sym q.0
@@ -36,7 +42,7 @@ build-leaves-log κs args x y s s' p q = p.1.1.0 ∙ sym q.1.1.0
 
 -- THE FIRST BUFFER
 
-page-once : (before : List ℕ) (stop : ℕ) (told : Replayed) (state after after' : List ℕ) (end end' next next' : ℕ)
+page-once : (before : List ℕ) (stop : ℕ) (told : Replayed) (state after after' : List ℕ) (end end' : ℕ) (next next' : Option ℕ)
     → PageSheet before stop told state after end next → PageSheet before stop told state after' end' next'
     → (after ≡ after') × (end ≡ end') × (next ≡ next')
 page-once before stop told state after after' end end' next next' p q =

@@ -25,12 +25,10 @@ use Rattle.runner.specs.Logged.{pairs_of}
 use Rattle.runner.specs.Call.{examine_page, page_told, state_left, log_left}
 use Rattle.text.specs.Lines.Fields.{none, more}
 use Rattle.replay.proofs.LineEdges.{spell, figure}
-use Rattle.pageshow.specs.Arguments.{is_same, value_to, is_number, word_says, asks}
 use Rattle.pageshow.specs.Built.{alone_length, built, built_state, built_log}
 use Rattle.pageshow.specs.Edges.{WordEdges, PageEdges}
 
 pub word-edges : WordEdges
-unfolding is_same all value_to is_number word_says asks
 word-edges = record {
   zeros_lead = refl;
   most = refl;
@@ -41,6 +39,7 @@ word-edges = record {
   slash = refl;
   colon = refl;
   blank_first = refl;
+  plus_first = refl;
   log_is = refl;
   log_cut = refl;
   log_longer = refl;

@@ -1,54 +1,52 @@
 -- What menupage's arguments ask for, what it tells of the children's row net, whole, cut and with a byte more, and a line byte by byte.
 -- Assumes nothing.
-use Rattle.std.specs.Prelude.{◌≡◌, true, false, List, [], ◌∷◌, ◌++◌, ℕ, take, set, replicate}
+use Rattle.std.specs.Prelude.{◌≡◌, true, false, Some, None, codes, List, [], ◌∷◌, ◌++◌, ℕ, take, set, replicate}
 use Rattle.forms.specs.Cases.{row_net, row_state}
 use Rattle.text.specs.Lines.{Line}
 use Rattle.replay.specs.declared.input.Replayed.{Replayed}
 use Rattle.replay.specs.Edges.{result, refused_by, zeros, is_at_rest}
 use Rattle.pageshow.specs.declared.arguments.Word.TheVariants as word
-use Rattle.pageshow.specs.declared.arguments.Asked.TheVariants as asked
 use Rattle.pageshow.specs.declared.build.Built.{Built}
 use Rattle.pageshow.specs.Arguments.{log_word, word_says, wishes, asks}
 use Rattle.pageshow.specs.Built.{enough, net_alone, built, built_state, built_log}
 use Rattle.pageshow.specs.Sheet.{stop_name, longest_log}
 
--- WORDS, IN ASCII
+-- WORDS
 
--- 0042
 abbrev pub leading_zeros : List ℕ
-leading_zeros = 48 ∷ 48 ∷ 52 ∷ 50 ∷ []
+leading_zeros = codes "0042"
 
--- 4294967295 and 4294967296
 abbrev pub most_word : List ℕ
-most_word = 52 ∷ 50 ∷ 57 ∷ 52 ∷ 57 ∷ 54 ∷ 55 ∷ 50 ∷ 57 ∷ 53 ∷ []
+most_word = codes "4294967295"
 
 abbrev pub past_word : List ℕ
-past_word = set most_word 9 54
+past_word = codes "4294967296"
 
 pub record WordEdges : Type 0 where
-  pub zeros_lead : word_says leading_zeros ≡ word.Budget 42
-  pub most : word_says most_word ≡ word.Budget 4294967295
-  pub past_most : word_says past_word ≡ word.Other
-  pub ten_zeros : word_says (replicate 10 48) ≡ word.Budget 0
-  pub eleven_zeros : word_says (replicate 11 48) ≡ word.Other
-  pub no_bytes : word_says [] ≡ word.Other
-  -- `/`, the byte before `0`; `:`, the byte behind `9`; a blank before a digit
-  pub slash : word_says (47 ∷ []) ≡ word.Other
-  pub colon : word_says (57 ∷ 58 ∷ []) ≡ word.Other
-  pub blank_first : word_says (32 ∷ 49 ∷ []) ≡ word.Other
-  pub log_is : word_says log_word ≡ word.Log
-  pub log_cut : word_says (take 4 log_word) ≡ word.Other
-  pub log_longer : word_says (log_word ++ (61 ∷ [])) ≡ word.Other
+  pub zeros_lead : word_says leading_zeros ≡ Some (word.Budget 42)
+  pub most : word_says most_word ≡ Some (word.Budget 4294967295)
+  pub past_most : word_says past_word ≡ None
+  pub ten_zeros : word_says (replicate 10 48) ≡ Some (word.Budget 0)
+  pub eleven_zeros : word_says (replicate 11 48) ≡ None
+  pub no_bytes : word_says [] ≡ None
+  -- `/` is the byte before `0`, and `:` the byte behind `9`; a blank before a digit
+  pub slash : word_says (codes "/") ≡ None
+  pub colon : word_says (codes "9:") ≡ None
+  pub blank_first : word_says (codes " 1") ≡ None
+  pub plus_first : word_says (codes "+1") ≡ None
+  pub log_is : word_says log_word ≡ Some word.Log
+  pub log_cut : word_says (take 4 log_word) ≡ None
+  pub log_longer : word_says (codes "--log=") ≡ None
   -- none, one, two in both orders, one of them twice, three
   pub none : asks 0 most_word most_word ≡ wishes false 24000
   pub log_alone : asks 1 log_word [] ≡ wishes true 24000
   pub budget_alone : asks 1 leading_zeros log_word ≡ wishes false 42
   pub log_first : asks 2 log_word leading_zeros ≡ wishes true 42
   pub budget_first : asks 2 leading_zeros log_word ≡ wishes true 42
-  pub log_twice : asks 2 log_word log_word ≡ asked.Misuse
-  pub budget_twice : asks 2 leading_zeros leading_zeros ≡ asked.Misuse
-  pub empty_first : asks 2 [] leading_zeros ≡ asked.Misuse
-  pub three : asks 3 log_word leading_zeros ≡ asked.Misuse
+  pub log_twice : asks 2 log_word log_word ≡ None
+  pub budget_twice : asks 2 leading_zeros leading_zeros ≡ None
+  pub empty_first : asks 2 [] leading_zeros ≡ None
+  pub three : asks 3 log_word leading_zeros ≡ None
 
 -- PAGES
 
@@ -66,9 +64,8 @@ Builds input budget told state' log' =
 abbrev Refuses : List ℕ → ℕ → Type 0
 Refuses input number = Builds input 24000 (tells 0 0 (refused_by number)) (zeros 30) (zeros 20)
 
--- `stop 2`
 abbrev pub stop_text : List ℕ
-stop_text = 115 ∷ 116 ∷ 111 ∷ 112 ∷ 32 ∷ 50 ∷ 10 ∷ []
+stop_text = codes "stop 2\n"
 
 pub record PageEdges : Type 0 where
   pub read_enough : enough ≡ 8456

@@ -1,6 +1,6 @@
 -- What menupage prints: the line of the stop, and behind it menurun's lines.
 -- Assumes nothing.
-use Rattle.std.specs.Prelude.{◌≡◌, List, [], ◌∷◌, ◌++◌, ℕ, ◌≤◌, length, take}
+use Rattle.std.specs.Prelude.{◌≡◌, Option, codes, List, [], ◌∷◌, ◌++◌, ℕ, ◌≤◌, length, take}
 use Rattle.model.specs.Limits.{event_limit}
 use Rattle.forms.specs.Places.{log_length}
 use Rattle.text.specs.Lines.{line_most, Line}
@@ -13,7 +13,7 @@ use Rattle.pageshow.specs.Built.{net_alone, built, built_state, built_log}
 -- THE FIRST LINE: `stop`, and its number
 
 abbrev pub stop_name : List ℕ
-stop_name = 115 ∷ 116 ∷ 111 ∷ 112 ∷ []
+stop_name = codes "stop"
 
 abbrev pub stop_most : ℕ
 stop_most = line_most 4 1
@@ -22,7 +22,7 @@ abbrev pub longest_log : ℕ
 longest_log = log_length event_limit
 
 -- the first buffer that is written: the line of the stop, and then what menurun prints where this is told and left
-pub record PageSheet (before : List ℕ) (stop : ℕ) (told : Replayed) (state after : List ℕ) (end next : ℕ) : Type 0 where
+pub record PageSheet (before : List ℕ) (stop : ℕ) (told : Replayed) (state after : List ℕ) (end : ℕ) (next : Option ℕ) : Type 0 where
   pub headed : List ℕ
   pub behind : ℕ
   pub stop_line : Line before 0 stop_name (stop ∷ []) [] headed behind

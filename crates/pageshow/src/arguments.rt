@@ -1,21 +1,17 @@
 // What the words behind the program's name ask for: `--log` and a budget, each at most once, in any order.
 ghost use Rattle.std.specs.Prelude.{◌≡◌};
-ghost use Rattle.pageshow.specs.Arguments.{is_same, number_says, word_says, wishes, one_asks, two_ask, behind_log, behind_budget, asks};
+ghost use Rattle.pageshow.specs.Arguments.{with_digit, number_says, word_says, asks};
 
-use forms::words;
 use model::net::Net;
 
-// A budget is 1 to 10 digits, and a number of 32 bits.
+// A budget has at most so many digits.
 const DIGITS_MOST: usize = 10;
-
-const BUDGET_MOST: usize = 4294967295;
 
 // What one word says.
 #[derive(Clone, Copy)]
 pub enum Word {
     Log,
     Budget(usize),
-    Other,
 }
 
 // The log is wanted on standard output, and the page has at most so many events.
@@ -25,131 +21,57 @@ pub struct Wish {
     pub budget: usize,
 }
 
-// What all of the words ask for.
-#[derive(Clone, Copy)]
-pub enum Asked {
-    Page(Wish),
-    Misuse,
-}
-
-// As many words as are counted, of which the first two are given; where there are fewer, what stands for the others is not looked at. A word
+// As many words as are counted, of which the first two are given; where there are fewer, what stands for the others changes nothing. A word
 // with no bytes is no word of ours, so a caller gives one for what it had no room for.
-pub fn read(count: usize, first: &[u8], second: &[u8]) -> Asked
+pub fn read(count: usize, first: &[u8], second: &[u8]) -> Option<Wish>
     ensures { result ≡ asks count first.now second.now }
 {
-    if count == 0 {
-        return page_of(false, Net::MAX_EVENTS);
-    }
-    if count == 1 {
-        return alone(word_of(first));
-    }
-    if count == 2 {
-        return both(word_of(first), word_of(second));
-    }
-    Asked::Misuse
-}
-
-fn page_of(log: bool, budget: usize) -> Asked
-    ensures { result ≡ wishes log budget }
-{
-    let wish = Wish {
-        log: log,
-        budget: budget,
-    };
-    Asked::Page(wish)
-}
-
-fn alone(word: Word) -> Asked
-    ensures { result ≡ one_asks word }
-{
-    match word {
-        Word::Log => page_of(true, Net::MAX_EVENTS),
-        Word::Budget(n) => page_of(false, n),
-        Word::Other => Asked::Misuse,
-    }
-}
-
-fn both(first: Word, second: Word) -> Asked
-    ensures { result ≡ two_ask first second }
-{
-    match first {
-        Word::Log => behind_log(second),
-        Word::Budget(n) => behind_budget(n, second),
-        Word::Other => Asked::Misuse,
-    }
-}
-
-fn behind_log(second: Word) -> Asked
-    ensures { result ≡ behind_log second }
-{
-    match second {
-        Word::Log => Asked::Misuse,
-        Word::Budget(n) => page_of(true, n),
-        Word::Other => Asked::Misuse,
-    }
-}
-
-fn behind_budget(budget: usize, second: Word) -> Asked
-    ensures { result ≡ behind_budget budget second }
-{
-    match second {
-        Word::Log => page_of(true, budget),
-        Word::Budget(_) => Asked::Misuse,
-        Word::Other => Asked::Misuse,
+    match (count, word_of(first), word_of(second)) {
+        (0, _, _) => Some(Wish {
+            log: false,
+            budget: Net::MAX_EVENTS,
+        }),
+        (1, Some(Word::Log), _) => Some(Wish {
+            log: true,
+            budget: Net::MAX_EVENTS,
+        }),
+        (1, Some(Word::Budget(budget)), _) => Some(Wish { log: false, budget }),
+        (2, Some(Word::Log), Some(Word::Budget(budget)))
+        | (2, Some(Word::Budget(budget)), Some(Word::Log)) => Some(Wish { log: true, budget }),
+        _ => None,
     }
 }
 
 // `--log`, a budget, or neither.
-fn word_of(word: &[u8]) -> Word
+fn word_of(word: &[u8]) -> Option<Word>
     ensures { result ≡ word_says word.now }
 {
-    if same(word, b"--log") {
-        return Word::Log;
+    if word == b"--log".as_slice() {
+        return Some(Word::Log);
     }
-    number_of(word)
+    number_of(word).map(Word::Budget)
 }
 
-fn same(a: &[u8], b: &[u8]) -> bool
-    ensures { result ≡ is_same a.now b.now }
-{
-    if a.len() != b.len() {
-        return false;
-    }
-    let mut i = 0;
-    while i < a.len() {
-        if a[i] != b[i] {
-            return false;
-        }
-        i += 1;
-    }
-    true
-}
-
-// A budget, or not.
-fn number_of(word: &[u8]) -> Word
+// A number of 32 bits, in 1 to 10 digits.
+fn number_of(word: &[u8]) -> Option<usize>
     ensures { result ≡ number_says word.now }
 {
-    if word.len() < 1 {
-        return Word::Other;
+    if !(1..=DIGITS_MOST).contains(&word.len()) {
+        return None;
     }
-    if DIGITS_MOST < word.len() {
-        return Word::Other;
+    let mut n = 0;
+    for byte in word {
+        n = with_digit(n, *byte)?;
     }
-    let mut n: usize = 0;
-    let mut i = 0;
-    while i < word.len() {
-        let digit = word[i];
-        if digit < b'0' {
-            return Word::Other;
-        }
-        if b'9' < digit {
-            return Word::Other;
-        }
-        n = n * 10 + words::wide(digit - b'0');
-        i += 1;
+    Some(n as usize)
+}
+
+// A number with one more digit behind it, where the byte is one and 32 bits have room for it.
+fn with_digit(n: u32, byte: u8) -> Option<u32>
+    ensures { result ≡ with_digit n byte }
+{
+    match byte {
+        b'0'..=b'9' => n.checked_mul(10)?.checked_add(u32::from(byte - b'0')),
+        _ => None,
     }
-    if BUDGET_MOST < n {
-        return Word::Other;
-    }
-    Word::Budget(n)
 }

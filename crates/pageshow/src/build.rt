@@ -1,10 +1,10 @@
 // The page of a net, from its initial state, and what is told of it: what menurun tells of the net and the log that is written.
 ghost use Rattle.std.specs.Prelude.{◌≡◌, ◌≤◌, length};
 ghost use Rattle.runner.specs.Call.{state_left, log_left};
-ghost use Rattle.engine.specs.Said.{says};
 ghost use Rattle.replay.specs.Lines.{LateShown};
 ghost use Rattle.pageshow.specs.Built.{alone_length, unbuilt, built_from, built, built_state, built_log, AsRun, AsReplayed};
 
+use engine::answers::Verdict;
 use engine::calls;
 use forms::places;
 use model::answer::Short;
@@ -20,40 +20,35 @@ pub struct Built {
     pub told: Replayed,
 }
 
-impl Built {
-    fn refused(number: u8, index: usize) -> Built
-        ensures { result ≡ unbuilt (says number index) }
-    {
-        let none = Short::nothing();
-        let told = Replayed {
-            number: number,
-            index: index,
-            done: 0,
-            ticks: 0,
-            standing: 0,
-            short: none,
-        };
+// Where there is no page, there is no log either.
+impl From<Verdict> for Built {
+    ghost from_gives = { λ why built. built ≡ unbuilt why };
+
+    fn from(why: Verdict) -> Built {
         Built {
             stop: 0,
             log: 0,
-            told: told,
+            told: Replayed::from(why),
         }
     }
 }
 
 // The input is to be the net and nothing else. The check of nets sees whether it is as long as it says. One that is longer than the longest
 // net is taken as empty, and as such refused by 1: so a program need not read all of it.
+#[tactic(auto, unfolding(crate::specs::Built::alone_length, forms::specs::Places::row_at))]
 pub fn net_length(input: &[u8]) -> usize
     ensures value { result ≡ alone_length input.now }
     ensures upper_bound { result ≤ length input.now }
 {
     if places::LONGEST_NET < input.len() {
-        return 0;
+        0
+    } else {
+        input.len()
     }
-    input.len()
 }
 
 // Makes the initial state of a net at the front of the buffer, and builds the page from there.
+#[tactic(auto, unfolding(crate::specs::Built::built, crate::specs::Built::built_state, crate::specs::Built::built_log))]
 pub fn build(net: &[u8], state: &mut [u8], log: &mut [u8], budget: usize) -> Built
     ensures value { result ≡ built net.now state.old log.old budget }
     ensures state_after { state.new ≡ built_state net.now state.old log.old budget }
@@ -63,7 +58,7 @@ pub fn build(net: &[u8], state: &mut [u8], log: &mut [u8], budget: usize) -> Bui
 {
     let begun = calls::initial(net, state);
     if begun.number != 0 {
-        return Built::refused(begun.number, begun.index);
+        return Built::from(begun);
     }
     build_from(net, state, log, budget)
 }
@@ -78,21 +73,21 @@ fn build_from(net: &[u8], state: &mut [u8], log: &mut [u8], budget: usize) -> Bu
 {
     let page = call::page(net, state, log, budget);
     if page.number != 0 {
-        return Built::refused(page.number, page.index);
+        return Built::from(Verdict {
+            number: page.number,
+            index: page.index,
+        });
     }
-    let owed = calls::owed(net, state);
-    let none = Short::nothing();
-    let told = Replayed {
-        number: 0,
-        index: page.events,
-        done: page.events,
-        ticks: page.ticks,
-        standing: owed.standing,
-        short: none,
-    };
     Built {
         stop: page.stop,
         log: places::EVENTS_AT + 2 * page.events,
-        told: told,
+        told: Replayed {
+            number: 0,
+            index: page.events,
+            done: page.events,
+            ticks: page.ticks,
+            standing: calls::owed(net, state).standing,
+            short: Short::nothing(),
+        },
     }
 }

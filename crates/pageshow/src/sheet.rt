@@ -23,8 +23,7 @@ fn stop_line(out: &mut [u8], stop: u8) -> usize
     ensures upper_bound { result ≤ stop_most }
     ensures line { Line out.old 0 stop_name (stop ∷ []) [] out.new result }
 {
-    let numbers = [stop as u64];
-    line::put_line(out, 0, b"stop", &numbers)
+    line::put_line(out, 0, b"stop", &[stop as u64])
 }
 
 // Builds the page of the net in an input, and puts what is to be printed into the buffer. There is room for every state and for the longest
@@ -45,11 +44,10 @@ pub fn first(
 {
     let n = build::net_length(input);
     let built = build::build(&input[..n], state, log, budget);
-    let told = built.told;
     let behind = stop_line(out, built.stop);
-    let sheet = sheet::show(out, behind, told, state);
+    let sheet = sheet::show(out, behind, built.told, state);
     Output {
         log: built.log,
-        sheet: sheet,
+        sheet,
     }
 }

@@ -16,7 +16,7 @@ use Rattle.model.specs.Net.{width}
 use Rattle.model.proofs.Shape.{width-short}
 use Rattle.forms.specs.declared.fault.Fault.{Fault}
 use Rattle.forms.specs.declared.fault.Fault.TheVariants as fault
-use Rattle.forms.specs.declared.fault.Checked.TheVariants as checked
+use Rattle.std.specs.Prelude.{Ok, Err}
 use Rattle.forms.specs.Word.{byte, word, word32}
 use Rattle.forms.specs.Places.{state_length, log_length}
 use Rattle.forms.specs.Stored.{net_of}
@@ -26,9 +26,7 @@ use Rattle.forms.specs.Logs.{check_log}
 use Rattle.forms.proofs.Logs.{log-faulty}
 use Rattle.forms.proofs.Nets.{few_transitions, few_places}
 use Rattle.forms.proofs.Image.{room-exact}
-use Rattle.engine.specs.declared.examine.Examined.{Examined}
-use Rattle.engine.specs.declared.examine.Examined.TheVariants as examined
-use Rattle.engine.specs.Examined.{examine_state, examine_log}
+use Rattle.engine.specs.Examined.{Examined, examine_state, examine_log}
 use Rattle.engine.specs.Calls.{initial_left, run_told, run_left}
 use Rattle.replay.specs.Replayed.{longest_net, enough, longest_state, has_arrived, net_length_in, net_in, log_in, replayed, replay_left}
 
@@ -48,7 +46,7 @@ net-at-most input =
 
 -- ROOM FOR EVERY STATE
 
-pub every-state-fits : (net state : List ℕ) → IsNet net → longest_state ≤ length state → check_room (net_of net) state ≡ checked.Good
+pub every-state-fits : (net state : List ℕ) → IsNet net → longest_state ≤ length state → check_room (net_of net) state ≡ (Ok tt)
 unfolding net_of state_length
 every-state-fits net state n h =
     let short : width (net_of net) ≤ 64 = width-short (net_of net) duration_limit (λ t l. (n.rows t l).interval.1) in
@@ -57,22 +55,22 @@ every-state-fits net state n h =
 
 -- A LOG THAT IS TOO LONG
 
-pub long-log : (log : List ℕ) → log_length event_limit < length log → check_log log ≡ checked.Bad fault.LogFrame
+pub long-log : (log : List ℕ) → log_length event_limit < length log → check_log log ≡ Err fault.LogFrame
 long-log log h = (log-faulty log).1 (λ is. not-few is.few is.least is.whole)
   where
     not-few : (length log - 5) / 2 ≤ event_limit → 5 ≤ length log → (length log - 5) % 2 ≡ 0 → ⊥
     not-few few least whole = omega arith
 
 -- two logs that are refused alike tell and leave the same
-module _ (net state log log' : List ℕ) (why : Fault) (bad : check_log log ≡ checked.Bad why) (bad' : check_log log' ≡ checked.Bad why) where
+module _ (net state log log' : List ℕ) (why : Fault) (bad : check_log log ≡ Err why) (bad' : check_log log' ≡ Err why) where
   alike : examine_log net state log ≡ examine_log net state log'
   unfolding examine_log
   alike = rw (bad, bad') refl
 
-  refused : (x : Examined) → examine_state net state ≡ x → (w : Fault) × (examine_log net state log ≡ examined.Unfit w)
+  refused : (x : Examined) → examine_state net state ≡ x → (w : Fault) × (examine_log net state log ≡ Err w)
   unfolding examine_log
-  refused (examined.Fit s) e = (why, rw (e, bad) refl)
-  refused (examined.Unfit w) e = (w, rw e refl)
+  refused (Ok s) e = (why, rw (e, bad) refl)
+  refused (Err w) e = (w, rw e refl)
 
   pub told-alike : run_told net state log false ≡ run_told net state log' false
   unfolding run_told
@@ -121,11 +119,11 @@ module _ (input : List ℕ) (m : ℕ) (much : enough ≤ m) (cut : m ≤ length 
   same-net : net_in (take m input) ≡ net_in input
   same-net = rw same_length (take-take (net_length_in input) m input (omega (arith, net-at-most input, much)))
 
-  cut-log : check_log (log_in (take m input)) ≡ checked.Bad fault.LogFrame
+  cut-log : check_log (log_in (take m input)) ≡ Err fault.LogFrame
   cut-log = rw same_length (long-log (drop (net_length_in input) (take m input))
       (omega (arith, length-drop (net_length_in input) (take m input), whole, net-at-most input, much)))
 
-  whole-log : check_log (log_in input) ≡ checked.Bad fault.LogFrame
+  whole-log : check_log (log_in input) ≡ Err fault.LogFrame
   whole-log = long-log (log_in input) (omega (arith, length-drop (net_length_in input) input, net-at-most input, much))
 
   module _ (state : List ℕ) where

@@ -2,14 +2,15 @@
 -- Assumes nothing.
 use mathlib.Core.Path.{◌≡◌, refl, sym, ◌∙◌}
 use mathlib.Core.List.{List, []}
-use Prim.Native.Nat.{ℕ, ◌+◌}
+use Prim.Native.Nat.{ℕ, ◌+◌, ◌<◌, ◌≤◌}
+use native.Mathlib.Omega.{arith}
 use contract.Lifetimes.{Lfts}
 use denote.Triple.Clauses.{AtExit}
 use denote.RattleType.{RattleType}
 use denote.Param.Laws.{Laws}
 use mir.Syntax.{Dict}
 use borrow.Fn.Kinds.{Dens, ended_of}
-use Rattle.std.specs.Prelude.{Ok}
+use Rattle.std.specs.Prelude.{Option, Ok}
 use Rattle.std.specs.declared.io.traits.Write.{Ghosts}
 use Rattle.model.proofs.Determined.{Determined, LeavesOne}
 use Rattle.text.proofs.Determined.{line-once}
@@ -18,7 +19,7 @@ use Rattle.replay.specs.declared.lines.Filled.{Filled}
 use Rattle.replay.specs.declared.sheet.Sheet.{Sheet}
 use Rattle.replay.specs.Lines.{result_name, result_fields, marks_name, marks_fields, run_name, cell_fields, next_running, cells_shown, Opens, RunLines, FirstSheet, Sheets}
 use Rattle.replay.specs.Lines.Opens.{alone, both}
-use Rattle.replay.specs.Lines.RunLines.{stop, more}
+use Rattle.replay.specs.Lines.RunLines.{over, full, more}
 use Rattle.replay.specs.Lines.Sheets.{last}
 use Rattle.replay.specs.Lines.Sheets.{more as further}
 use Rattle.replay.proofs.Shown.{not-both}
@@ -26,6 +27,8 @@ use Rattle.replay.proofs.input.net_length.Reads as net-length
 use Rattle.replay.proofs.input.net_length.Kinds as net-length-kinds
 use Rattle.replay.proofs.input.is_early.Reads as is-early
 use Rattle.replay.proofs.input.is_early.Kinds as is-early-kinds
+use Rattle.replay.proofs.input.ReplayedFromVerdict.from.Reads as from-verdict
+use Rattle.replay.proofs.input.ReplayedFromVerdict.from.Kinds as from-verdict-kinds
 use Rattle.replay.proofs.input.replay.Reads as replay
 use Rattle.replay.proofs.input.replay.Kinds as replay-kinds
 use Rattle.replay.proofs.lines.result.Reads as result
@@ -57,6 +60,9 @@ net-length-determined κs args x y s s' p q = p.0 ∙ sym q.0
 pub is-early-determined : Determined 0 is-early-kinds.ps is-early-kinds.r is-early.Learnt
 is-early-determined κs args x y s s' p q = p ∙ sym q
 
+pub from-verdict-determined : Determined 0 from-verdict-kinds.ps from-verdict-kinds.r from-verdict.Learnt
+from-verdict-determined κs args x y s s' p q = p ∙ sym q
+
 pub replay-determined : Determined 2 replay-kinds.ps replay-kinds.r replay.Learnt
 replay-determined κs args x y s s' p q = p.0 ∙ sym q.0
 
@@ -76,13 +82,18 @@ opens-once before at told state after after' end end' (both {between = b} {next 
     let (stands, ends) = line-once before at result_name (result_fields told) [] b₂ b a₂ a m l in
     line-once b a marks_name (marks_fields state) [] after after' end end' k (rw (stands, ends) at n)
 
+-- there is room for a line, or not
+not_room : {long most : ℕ} {A : Type 0} → most ≤ long → long < most → A
+not_room l h = absurd (omega arith)
+
 -- as many lines of counts as there is room for
-runs-once : (s : List ℕ) (cells : ℕ) (b : List ℕ) (at cell : ℕ) (after after' : List ℕ) (end end' next next' : ℕ)
-    → RunLines s cells b at cell after end next → RunLines s cells b at cell after' end' next' → (after ≡ after') × (end ≡ end') × (next ≡ next')
-runs-once s cells b at cell after after' end end' next next' (stop e) (stop f) = (refl, refl, refl)
-runs-once s cells b at cell after after' end end' next next' (stop e) (more f m q) = not-both f e
-runs-once s cells b at cell after after' end end' next next' (more e l r) (stop f) = not-both e f
-runs-once s cells b at cell after after' end end' next next' (more {b₁} {at₁} e l r) (more {b₁ = b₂} {at₁ = at₂} f m q) =
+runs-once : (s : List ℕ) (cells : ℕ) (b : List ℕ) (at : ℕ) (now : Option ℕ) (after after' : List ℕ) (end end' : ℕ) (next next' : Option ℕ)
+    → RunLines s cells b at now after end next → RunLines s cells b at now after' end' next' → (after ≡ after') × (end ≡ end') × (next ≡ next')
+runs-once s cells b at now after after' end end' next next' over over = (refl, refl, refl)
+runs-once s cells b at now after after' end end' next next' (full h) (full i) = (refl, refl, refl)
+runs-once s cells b at now after after' end end' next next' (full h) (more l m q) = not_room l h
+runs-once s cells b at now after after' end end' next next' (more l m r) (full h) = not_room l h
+runs-once s cells b at now after after' end end' next next' (more {b₁} {at₁} {cell} h l r) (more {b₁ = b₂} {at₁ = at₂} i m q) =
     let (stands, ends) = line-once b at run_name (cell_fields s cell) [] b₂ b₁ at₂ at₁ m l in
     runs-once s cells b₁ at₁ (next_running s cells (cell + 1)) after after' end end' next next' r (rw (stands, ends) at q)
 
@@ -134,7 +145,7 @@ pub runs-leaves : LeavesOne 2 runs-kinds.ps runs-kinds.r runs.Learnt (λ κs s. 
 runs-leaves κs args x y s s' p q = (runs-once _ _ _ _ _ s.0.now s'.0.now x.end y.end x.next y.next p.1 q.1).0
 
 -- the first buffer
-pub sheet-once : (before : List ℕ) (at : ℕ) (told : Replayed) (state after after' : List ℕ) (end end' next next' : ℕ)
+pub sheet-once : (before : List ℕ) (at : ℕ) (told : Replayed) (state after after' : List ℕ) (end end' : ℕ) (next next' : Option ℕ)
     → FirstSheet before at told state after end next → FirstSheet before at told state after' end' next'
     → (after ≡ after') × (end ≡ end') × (next ≡ next')
 sheet-once before at told state after after' end end' next next' p q =
@@ -165,14 +176,12 @@ pub first-prints : LeavesOne 3 first-kinds.ps first-kinds.r first.Learnt (λ κs
 first-prints κs args x y s s' p q = (sheet-once _ _ _ _ s.1.1.0.now s'.1.1.0.now x.end y.end x.next y.next p.0 q.0).0
 
 -- the buffers behind it
-sheets-once : (s : List ℕ) (cells : ℕ) (b : List ℕ) (next : ℕ) (after after' : List ℕ) → Sheets s cells b next after → Sheets s cells b next after'
+sheets-once : (s : List ℕ) (cells : ℕ) (b : List ℕ) (now : Option ℕ) (after after' : List ℕ) → Sheets s cells b now after → Sheets s cells b now after'
     → after ≡ after'
-sheets-once s cells b next after after' (last e) (last f) = refl
-sheets-once s cells b next after after' (last e) (further f m q) = not-both f e
-sheets-once s cells b next after after' (further e l r) (last f) = not-both e f
-sheets-once s cells b next after after' (further {b₁} {end} {next₁} e l r) (further {b₁ = b₂} {end = end₂} {next₁ = next₂} f m q) =
-    let (stands, ends, goes) = runs-once s cells b 0 (next_running s cells next) b₂ b₁ end₂ end next₂ next₁ m l in
-    sheets-once s cells b₁ next₁ after after' r (rw (stands, goes) at q)
+sheets-once s cells b now after after' last last = refl
+sheets-once s cells b now after after' (further {b₁} {cell} {end} {next} l r) (further {b₁ = b₂} {end = end₂} {next = next₂} m q) =
+    let (stands, ends, goes) = runs-once s cells b 0 (next_running s cells cell) b₂ b₁ end₂ end next₂ next m l in
+    sheets-once s cells b₁ next after after' r (rw (stands, goes) at q)
 
 -- whatever it is written to, where all of it was written
 module _ (W : RattleType) (L : Laws W) (G : Ghosts W.Denot) (d : Dict) where

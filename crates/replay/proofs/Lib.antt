@@ -1,4 +1,3 @@
-pub mod Parts
 pub mod States
 pub mod Shown
 pub mod Cells

@@ -6,14 +6,14 @@ use Prim.Native.Nat.{ℕ, ◌+◌, ◌<◌}
 use native.Mathlib.Omega.{arith}
 use lib.Seq.{paste}
 use Rattle.io.specs.Digits.{last_digits, IsDigitCount}
-use Rattle.model.specs.Tab.{tab, lowest}
+use Rattle.model.specs.Tab.{tab}
 use Rattle.forms.specs.Word.{word}
 use Rattle.forms.specs.Places.{count_at}
 use Rattle.text.specs.Lines.{Spelt, Line}
 use Rattle.text.specs.Lines.Fields.{none, more}
 use Rattle.replay.specs.Lines.{result_name, result_fields, run_name, count_of, next_running}
 use Rattle.replay.specs.Lines.Opens.{alone as early, both as late}
-use Rattle.replay.specs.Lines.RunLines.{stop}
+use Rattle.replay.specs.Lines.RunLines.{over, full}
 use Rattle.replay.specs.Lines.RunLines.{more as further}
 use Rattle.replay.specs.Edges.{result, zeros, result_text, older_text, fresher_text, LineEdges}
 
@@ -55,7 +55,7 @@ older-line rest = record {
 }
 
 pub line-edges : LineEdges
-unfolding word count_at count_of next_running lowest tab
+unfolding word count_at count_of next_running tab
 line-edges = record {
   result_line = result-at (zeros 2);
   marks_line = record {
@@ -102,8 +102,8 @@ line-edges = record {
   second_cell = refl;
   no_more_cells = refl;
   two_lines =
-      further {b₁ = older_text ++ zeros 70} {at₁ = 10} refl (older-line (zeros 70))
-      (further {b₁ = older_text ++ fresher_text ++ zeros 58} {at₁ = 22} refl
+      further {b₁ = older_text ++ zeros 70} {at₁ = 10} (omega arith) (older-line (zeros 70))
+      (further {b₁ = older_text ++ fresher_text ++ zeros 58} {at₁ = 22} (omega arith)
       (record {
         numbered = _;
         last = 21;
@@ -113,6 +113,6 @@ line-edges = record {
             (more (spell _ _ 300 3 (omega arith, omega arith, λ l. omega arith)) none));
         ended = refl;
         ends = refl;
-      }) (stop refl));
-  one_line = further {b₁ = older_text ++ zeros 66} {at₁ = 10} refl (older-line (zeros 66)) (stop refl);
+      }) over);
+  one_line = further {b₁ = older_text ++ zeros 66} {at₁ = 10} (omega arith) (older-line (zeros 66)) (full (omega arith));
 }

@@ -4,14 +4,11 @@ use mathlib.Core.Path.{◌≡◌, sym, ◌∙◌}
 use mathlib.Core.List.{List}
 use Prim.Native.Nat.{ℕ, ◌+◌, ◌<◌, ◌≤◌}
 use native.Mathlib.Omega.{arith}
-use lib.ListN.{length, set, drop}
+use lib.ListN.{set, drop}
 use Rattle.model.specs.Tab.{tab}
 use Rattle.model.proofs.Tab.{length-tab, get_or-tab}
-use Rattle.forms.specs.Word.{byte}
-use Rattle.forms.specs.Places.{mark_at, state_length}
 use Rattle.text.specs.Lines.{space, Spelt, Fields}
 use Rattle.text.proofs.Puts.{fields-turn, fields-end}
-use Rattle.replay.specs.Replayed.{Shown}
 
 module _ (n : ℕ) (f : ℕ → ℕ) where
   -- the marking of place p, and those behind it
@@ -23,8 +20,3 @@ module _ (n : ℕ) (f : ℕ → ℕ) where
   -- none is left
   pub marks-end : (p : ℕ) (b : List ℕ) (at : ℕ) → n ≤ p → p ≤ n → Fields b at (drop p (tab n f)) b at
   marks-end p b at l u = fields-end (tab n f) p b at (rw (length-tab n f) (omega arith))
-
--- a marking stands within a state that can be shown
-pub mark-inside : (s : List ℕ) → Shown s → (places p at : ℕ) → places ≡ byte s 5 → p < places → at ≡ mark_at p → at + 1 < length s
-unfolding state_length
-mark-inside s is places p at e h g = omega (arith, is.room)

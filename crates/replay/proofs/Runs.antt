@@ -1,89 +1,79 @@
 -- The lines of the counts: when another is put, and that each buffer of them comes further.
 -- Assumes nothing.
-use mathlib.Core.Path.{◌≡◌, refl}
-use mathlib.Core.Bool.{Bool, true, false, ◌&&◌}
-use mathlib.Core.List.{List}
-use Prim.Native.Nat.{ℕ, ◌+◌, ◌-◌, ◌<◌, ◌≤◌}
-use native.Mathlib.Omega.{arith}
-use lib.Dec.{ltb}
-use lib.ListN.{length}
-use borrow.Author.Tests.{lt-ltb, le-ltb, le-leb, lt-leb, ltb-true, ltb-false}
-use Rattle.model.specs.Owed.{Lowest}
-use Rattle.model.proofs.Tab.{both-tell}
-use Rattle.model.proofs.Tests.{leb_tells, ltb-tells}
-use Rattle.model.proofs.Lowest.{lowest-is}
-use Rattle.replay.specs.declared.input.Replayed.{Replayed}
-use Rattle.replay.specs.Lines.{Opens, FirstSheet, cells_shown, run_most, count_of, next_running, does_go_on, RunLines}
-use Rattle.replay.specs.Lines.RunLines.{stop, more}
-use Rattle.replay.proofs.Shown.{not-both}
+use Rattle.std.proofs.Common.{◌≡◌, Bool, true, false, cond, [], ℕ, zero, suc, List, Option, Some, None, IfSome, ◌+◌, ◌-◌, ◌<◌, ◌≤◌, length, arith}
+use Rattle.std.specs.Option.{option_map_or}
+use Rattle.std.specs.List.{find, range_with_len}
+use Rattle.text.specs.Lines.{Line}
+use Rattle.model.proofs.Tab.{below-or-past}
+use Rattle.replay.specs.Lines.{run_name, cell_fields, run_most, next_running, RunLines}
+use Rattle.replay.specs.Lines.RunLines.{over, full, more}
 
 -- ONE LINE MORE, OR NONE
 
-and-false : (x : Bool) → (x && false) ≡ false
-and-false true = refl
-and-false false = refl
+module _ (state : List ℕ) (cells : ℕ) (b : List ℕ) (at : ℕ) (next : Option ℕ) where
+  pub ends : next ≡ None → RunLines state cells b at next b at next
+  ends e = rw e over
 
-module _ (cells : ℕ) (b : List ℕ) (at cell : ℕ) where
-  pub stops-full : at ≤ length b → length b - at < run_most → does_go_on cells b at cell ≡ false
-  stops-full l h = rw (lt-leb (at + run_most) (length b) (omega arith)) (and-false (ltb cell cells))
+  module _ (cell : ℕ) (is : next ≡ Some cell) where
+    pub fills : at ≤ length b → length b - at < run_most → RunLines state cells b at next b at (Some cell)
+    fills l h = let no_room : length b < at + run_most = omega arith in rw is (full no_room)
 
-  pub stops-over : cells ≤ cell → does_go_on cells b at cell ≡ false
-  stops-over h = rw (le-ltb cell cells h) refl
-
-  pub goes_on : cell < cells → at ≤ length b → run_most ≤ length b - at → does_go_on cells b at cell ≡ true
-  goes_on l f h = rw (lt-ltb cell cells l, le-leb (at + run_most) (length b) (omega arith)) refl
+    pub goes_on : at ≤ length b → run_most ≤ length b - at → (b₁ b' : List ℕ) (at₁ end : ℕ) (next₁ next' : Option ℕ)
+        → Line b at run_name (cell_fields state cell) [] b₁ at₁ → next₁ ≡ next_running state cells (cell + 1)
+        → RunLines state cells b₁ at₁ next₁ b' end next' → RunLines state cells b at next b' end next'
+    goes_on l h b₁ b' at₁ end next₁ next' line e rest =
+        let room : at + run_most ≤ length b = omega arith in
+        rw is (more room line (rw e at rest))
 
 -- EACH BUFFER COMES FURTHER
 
-module _ (s : List ℕ) (cells : ℕ) where
-  -- the next cell is not before the first that was asked for, and not past the last
-  pub next-bounds : (from : ℕ) → from ≤ cells → (from ≤ next_running s cells from) × (next_running s cells from ≤ cells)
+-- the cell to come, if any, is one of those from the k-th on
+abbrev pub IsFrom : ℕ → ℕ → Option ℕ → Type 0
+IsFrom cells k next = IfSome next (λ cell. (k ≤ cell) × (cell < cells))
+
+still : (cells k m : ℕ) (next : Option ℕ) → k ≤ m → IsFrom cells m next → IsFrom cells k next
+still cells k m None l h = tt
+still cells k m (Some cell) l h = (omega (arith, h.0), h.1)
+
+found_from : (p : ℕ → Bool) (from n cells : ℕ) → from + n ≤ cells → IsFrom cells from (find p (range_with_len from n))
+found_from p from zero cells l = tt
+found_from p from (suc n) cells l = by-test (p from) (found_from p (from + 1) n cells (omega arith))
+  where
+    by-test : (x : Bool) → IsFrom cells (from + 1) (find p (range_with_len (from + 1) n)) → IsFrom cells from (cond x (Some from) (find p (range_with_len (from + 1) n)))
+    by-test true h = (omega arith, omega arith)
+    by-test false h = still cells from (from + 1) _ (omega arith) h
+
+module _ (state : List ℕ) (cells : ℕ) where
+  next_from : (from : ℕ) → IsFrom cells from (next_running state cells from)
   unfolding next_running
-  next-bounds from h = bounds (lowest-is (λ cell. both-tell (leb_tells from cell) (ltb-tells 0 (count_of s cell))) cells cells)
-    where
-      bounds : {l : ℕ} → Lowest (λ cell. (from ≤ cell) × (0 < count_of s cell)) cells cells l → (from ≤ l) × (l ≤ cells)
-      bounds (Lowest.found below here none) = (here.0, omega arith)
-      bounds (Lowest.empty none) = (h, omega arith)
+  next_from from =
+      below-or-past cells from
+      (λ past. let none : cells - from ≡ 0 = omega arith in rw none tt)
+      (λ l. found_from _ from (cells - from) cells (omega arith))
 
-  known : (b : List ℕ) (at cell : ℕ) → does_go_on cells b at cell ≡ true → cell < cells
-  known b at cell e = by-test (ltb cell cells) refl
-    where
-      by-test : (x : Bool) → ltb cell cells ≡ x → cell < cells
-      by-test true f = ltb-true cell cells f
-      by-test false f = not-both {b = false} (rw f at e) refl
-
-  not_back : {b b' : List ℕ} {at cell end next : ℕ} → RunLines s cells b at cell b' end next → cell ≤ next
-  not_back (stop e) = omega arith
-  not_back (more {b} {at} {cell} e line rest) =
-      let l : cell < cells = known b at cell e in
-      let n : cell + 1 ≤ next_running s cells (cell + 1) = (next-bounds (cell + 1) (omega arith)).0 in
-      omega (arith, n, not_back rest)
+  not_back : (k : ℕ) {b b' : List ℕ} {at end : ℕ} {next next' : Option ℕ} → RunLines state cells b at next b' end next' → IsFrom cells k next
+      → IsFrom cells k next'
+  not_back k over h = h
+  not_back k (full l) h = h
+  not_back k (more {cell} l line rest) h =
+      not_back k rest (still cells k (cell + 1) _ (omega (arith, h.0)) (next_from (cell + 1)))
 
   -- where there is room for a line, the cell to come is a later one
-  later : {b b' : List ℕ} {at cell end next : ℕ} → RunLines s cells b at cell b' end next → cell < cells → at + run_most ≤ length b → cell < next
-  later (stop {b} {at} {cell} e) l room = not-both (goes_on cells b at cell l (omega arith) (omega arith)) e
-  later (more {b} {at} {cell} e line rest) l room =
-      let n : cell + 1 ≤ next_running s cells (cell + 1) = (next-bounds (cell + 1) (omega arith)).0 in
-      omega (arith, n, not_back rest)
+  later : (k : ℕ) {b b' : List ℕ} {at end : ℕ} {next next' : Option ℕ} → RunLines state cells b at next b' end next' → at + run_most ≤ length b
+      → IsFrom cells k next → IsFrom cells (k + 1) next'
+  later k over room h = tt
+  later k (full l) room h = absurd (omega arith)
+  later k (more {cell} l line rest) room h =
+      not_back (k + 1) rest (still cells (k + 1) (cell + 1) _ (omega (arith, h.0)) (next_from (cell + 1)))
 
-  pub further : (b b' : List ℕ) (at from end next : ℕ) → from < cells → at + run_most ≤ length b
-      → RunLines s cells b at (next_running s cells from) b' end next → from < next
-  further b b' at from end next l room lines = by-test (ltb (next_running s cells from) cells) refl
-    where
-      by-test : (x : Bool) → ltb (next_running s cells from) cells ≡ x → from < next
-      by-test true e = omega (arith, (next-bounds from (omega arith)).0, later lines (ltb-true (next_running s cells from) cells e) room)
-      by-test false e = omega (arith, ltb-false (next_running s cells from) cells e, not_back lines)
+  pub further : (from : ℕ) (b b' : List ℕ) (at end : ℕ) (next : Option ℕ) → at + run_most ≤ length b
+      → RunLines state cells b at (next_running state cells from) b' end next → IsFrom cells (from + 1) next
+  further from b b' at end next room lines = later from lines room (next_from from)
 
--- THE FIRST BUFFER: the opening, and the lines of the counts behind it
+-- how many cells are to come at most
+abbrev pub to_come : ℕ → Option ℕ → ℕ
+to_come cells next = option_map_or (λ cell. 1 + (cells - cell)) next 0
 
-pub first-sheet : (told : Replayed) (state before opened after : List ℕ) (at behind cells end next : ℕ) → cells ≡ cells_shown told.number state
-    → Opens before at told state opened behind → RunLines state cells opened behind (next_running state cells 0) after end next
-    → FirstSheet before at told state after end next
-first-sheet told state before opened after at behind cells end next c o r =
-    record { opened = opened; behind = behind; opens = o; counts = rw c at r }
-
--- of what is told and left, whatever the names
-pub sheet-of : (told' told : Replayed) (state' state before after : List ℕ) (at cells end next : ℕ) → told ≡ told' → state ≡ state'
-    → FirstSheet before at told state after end next → cells ≡ cells_shown told.number state
-    → FirstSheet before at told' state' after end next × (cells ≡ cells_shown told'.number state')
-sheet-of told' told state' state before after at cells end next t s f c = (rw (t, s) at f, rw (t, s) at c)
+pub fewer : (cells from : ℕ) (now next : Option ℕ) → now ≡ Some from → IsFrom cells (from + 1) next → to_come cells next < to_come cells now
+fewer cells from now None is h = rw is (omega arith)
+fewer cells from now (Some cell) is h = rw is (omega (arith, h.0, h.1))

@@ -9,16 +9,13 @@ use lib.Dec.{eqb}
 use Rattle.model.specs.Net.{Net, State}
 use Rattle.forms.specs.declared.fault.Fault.{Fault}
 use Rattle.forms.specs.declared.fault.Fault.TheVariants as fault
-use Rattle.forms.specs.declared.fault.Checked.{Checked}
-use Rattle.forms.specs.declared.fault.Checked.TheVariants as checked
-use Rattle.forms.specs.Checked.{number_of, number_of_fault}
+use Rattle.std.specs.Prelude.{Ok, Err}
+use Rattle.forms.specs.Checked.{Checked, number_of, number_of_fault}
 use Rattle.forms.specs.Stored.{net_of}
 use Rattle.forms.specs.States.{StateHead}
 use Rattle.forms.specs.Written.{written, check_room}
 use Rattle.forms.proofs.Written.{length-written, written-head}
-use Rattle.engine.specs.declared.examine.Examined.{Examined}
-use Rattle.engine.specs.declared.examine.Examined.TheVariants as examined
-use Rattle.engine.specs.Examined.{examine_net, examine_log}
+use Rattle.engine.specs.Examined.{Examined, examine_net, examine_log}
 use Rattle.engine.specs.Calls.{initial_told, initial_left, run_told, run_left}
 use Rattle.engine.proofs.Fits.{log-fits}
 use Rattle.replay.specs.declared.input.Replayed.{Replayed}
@@ -40,8 +37,8 @@ fault-early (fault.PastLfd t) = refl
 fault-early fault.LogFrame = refl
 
 checked-early : (check : Checked) → eqb (number_of check) 0 ≡ false → is_early (number_of check) ≡ true
-checked-early checked.Good e = sym e
-checked-early (checked.Bad why) e = fault-early why
+checked-early (Ok tt) e = sym e
+checked-early (Err why) e = fault-early why
 
 -- a test does not both pass and fail
 pub not-both : {b : Bool} {A : Type 0} → b ≡ true → b ≡ false → A
@@ -64,15 +61,15 @@ written-shown N S b h =
 module _ (net state : List ℕ) where
   initial-early : (x : Examined) → examine_net net ≡ x → is_begun net state ≡ false → is_early (initial_told net state).number ≡ true
   unfolding initial_told
-  initial-early (examined.Fit s) e stopped = rw e (checked-early (check_room (net_of net) state) (rw e at stopped))
-  initial-early (examined.Unfit why) e stopped = rw e (fault-early why)
+  initial-early (Ok s) e stopped = rw e (checked-early (check_room (net_of net) state) (rw e at stopped))
+  initial-early (Err why) e stopped = rw e (fault-early why)
 
 -- what holds of every state written behind the head of one of the net holds where the number told is not early
 module _ (A : List ℕ → List ℕ → Type 0) (of-written : (net : List ℕ) (S : State) (b : List ℕ) → StateHead (net_of net) b → A net (written (net_of net) S b)) where
   ran-late : (net state log : List ℕ) (x : Examined) → examine_log net state log ≡ x → is_early (run_told net state log false).number ≡ false → A net (run_left net state log false)
   unfolding run_told run_left
-  ran-late net state log (examined.Fit s) e late = rw e (of-written net _ state (log-fits net s state log e).0.is_state.head)
-  ran-late net state log (examined.Unfit why) e late = not-both (fault-early why) (rw e at late)
+  ran-late net state log (Ok s) e late = rw e (of-written net _ state (log-fits net s state log e).0.is_state.head)
+  ran-late net state log (Err why) e late = not-both (fault-early why) (rw e at late)
 
   module _ (input state : List ℕ) where
     by-begun : (x : Bool) → is_begun (net_in input) state ≡ x → is_early (replayed input state).number ≡ false → A (net_in input) (replay_left input state)
@@ -99,14 +96,14 @@ late-shows =
     (kept 5 (omega arith) ∙ h.places_are) (kept 6 (omega arith) ∙ h.transitions_are) (kept 7 (omega arith) ∙ h.width_is))
 
 -- what a program knows behind a replay
-pub late-shown : (input state : List ℕ) (r : Replayed) (left : List ℕ) → r ≡ replayed input state → left ≡ replay_left input state
+pub late_shown : (input state : List ℕ) (r : Replayed) (left : List ℕ) → r ≡ replayed input state → left ≡ replay_left input state
     → LateShown r.number left
-late-shown input state r left told leaves late =
+late_shown input state r left told leaves late =
     rw leaves (shown input state (ap (λ (x : Replayed). is_early x.number) (sym told) ∙ late))
 
 -- the cells that are looked at can be read
-pub late-reads : (number : ℕ) (state : List ℕ) → LateShown number state → Reads state (cells_shown number state)
-late-reads number state is = by-test (is_early number) refl
+pub late_reads : (number : ℕ) (state : List ℕ) → LateShown number state → Reads state (cells_shown number state)
+late_reads number state is = by-test (is_early number) refl
   where
     by-test : (x : Bool) → is_early number ≡ x → Reads state (cells_shown number state)
     by-test true e = rw e Reads.nothing

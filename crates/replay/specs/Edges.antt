@@ -1,6 +1,6 @@
 -- What menurun tells of inputs that a reader can compare with document 01, the bounds of what is read, and lines byte by byte.
 -- Assumes nothing.
-use Rattle.std.specs.Prelude.{◌≡◌, List, [], ◌∷◌, ◌++◌, ℕ, take, set, replicate}
+use Rattle.std.specs.Prelude.{◌≡◌, Some, None, codes, List, [], ◌∷◌, ◌++◌, ℕ, take, set, replicate}
 use Rattle.forms.specs.Cases.{row_net, row_state, row_log}
 use Rattle.text.specs.Lines.{Line}
 use Rattle.replay.specs.declared.input.Replayed.{Replayed}
@@ -67,27 +67,22 @@ pub record Edges : Type 0 where
   -- a net of no places, refused by 2 behind a whole frame
   pub no_places : replayed (set row_net 5 0 ++ row_log) (zeros 30) ≡ refused_by 2
 
--- LINES, IN ASCII
+-- LINES
 
--- result 13 7 2 1 3 6 5
 abbrev pub result_text : List ℕ
-result_text = 114 ∷ 101 ∷ 115 ∷ 117 ∷ 108 ∷ 116 ∷ 32 ∷ 49 ∷ 51 ∷ 32 ∷ 55 ∷ 32 ∷ 50 ∷ 32 ∷ 49 ∷ 32 ∷ 51 ∷ 32 ∷ 54 ∷ 32 ∷ 53 ∷ 10 ∷ []
+result_text = codes "result 13 7 2 1 3 6 5\n"
 
--- result 10 0 0 0 0 0 0
 abbrev pub early_text : List ℕ
-early_text = 114 ∷ 101 ∷ 115 ∷ 117 ∷ 108 ∷ 116 ∷ 32 ∷ 49 ∷ 48 ∷ 32 ∷ 48 ∷ 32 ∷ 48 ∷ 32 ∷ 48 ∷ 32 ∷ 48 ∷ 32 ∷ 48 ∷ 32 ∷ 48 ∷ 10 ∷ []
+early_text = codes "result 10 0 0 0 0 0 0\n"
 
--- marks 0 0 1
 abbrev pub marks_text : List ℕ
-marks_text = 109 ∷ 97 ∷ 114 ∷ 107 ∷ 115 ∷ 32 ∷ 48 ∷ 32 ∷ 48 ∷ 32 ∷ 49 ∷ 10 ∷ []
+marks_text = codes "marks 0 0 1\n"
 
--- run 0 3 2
 abbrev pub older_text : List ℕ
-older_text = 114 ∷ 117 ∷ 110 ∷ 32 ∷ 48 ∷ 32 ∷ 51 ∷ 32 ∷ 50 ∷ 10 ∷ []
+older_text = codes "run 0 3 2\n"
 
--- run 1 0 300
 abbrev pub fresher_text : List ℕ
-fresher_text = 114 ∷ 117 ∷ 110 ∷ 32 ∷ 49 ∷ 32 ∷ 48 ∷ 32 ∷ 51 ∷ 48 ∷ 48 ∷ 10 ∷ []
+fresher_text = codes "run 1 0 300\n"
 
 -- the document's initial state, with 2 firings of transition 0 of age 3, and 300 of transition 1 of age 0
 abbrev pub two_running : List ℕ
@@ -103,8 +98,8 @@ pub record LineEdges : Type 0 where
   pub no_cells : cells_shown 10 two_running ≡ 0
   pub all_cells : (cells_shown 0 two_running ≡ 8) × (cells_shown 11 two_running ≡ 8)
   -- transition first, age second; and where the room ends, the cell to come
-  pub first_cell : next_running two_running 8 0 ≡ 3
-  pub second_cell : next_running two_running 8 4 ≡ 4
-  pub no_more_cells : next_running two_running 8 5 ≡ 8
-  pub two_lines : RunLines two_running (cells_in two_running) (zeros 80) 0 3 (older_text ++ fresher_text ++ zeros 58) 22 8
-  pub one_line : RunLines two_running (cells_in two_running) (zeros 76) 0 3 (older_text ++ zeros 66) 10 4
+  pub first_cell : next_running two_running 8 0 ≡ Some 3
+  pub second_cell : next_running two_running 8 4 ≡ Some 4
+  pub no_more_cells : next_running two_running 8 5 ≡ None
+  pub two_lines : RunLines two_running (cells_in two_running) (zeros 80) 0 (Some 3) (older_text ++ fresher_text ++ zeros 58) 22 None
+  pub one_line : RunLines two_running (cells_in two_running) (zeros 76) 0 (Some 3) (older_text ++ zeros 66) 10 (Some 4)

@@ -1,11 +1,12 @@
 -- What menurun prints (document 01, the program): the numbers of each line, which lines there are, and in which order.
 -- Assumes nothing.
-use Rattle.std.specs.Prelude.{◌≡◌, Bool, true, false, cond, ◌&&◌, List, [], ◌∷◌, ℕ, ◌+◌, ◌*◌, ◌/◌, ◌%◌, ◌<◌, leb, ltb, length}
+use Rattle.std.specs.Prelude.{◌≡◌, true, false, cond, Option, Some, None, List, [], ◌∷◌, ℕ, ◌+◌, ◌-◌, ◌*◌, ◌/◌, ◌%◌, ◌<◌, ◌≤◌, nat_lt, length, codes, find}
+use Rattle.std.specs.List.{range_with_len}
 use Rattle.model.specs.declared.age.Age.{Age}
 use Rattle.model.specs.declared.net.Net.{Net as Shape}
 use Rattle.model.specs.Age.{column_of}
 use Rattle.model.specs.Limits.{shape_of}
-use Rattle.model.specs.Tab.{tab, lowest}
+use Rattle.model.specs.Tab.{tab}
 use Rattle.model.specs.Net.{Net, width, tokens, count}
 use Rattle.forms.specs.Word.{byte, word}
 use Rattle.forms.specs.Places.{mark_at, count_at}
@@ -37,7 +38,7 @@ least_buffer = result_most + marks_most
 -- THE FIRST LINE: `result`, and number, index, events done, ticks, standing, the place that is short, the shortage
 
 abbrev pub result_name : List ℕ
-result_name = 114 ∷ 101 ∷ 115 ∷ 117 ∷ 108 ∷ 116 ∷ []
+result_name = codes "result"
 
 abbrev pub result_fields : Replayed → List ℕ
 result_fields told =
@@ -46,7 +47,7 @@ result_fields told =
 -- THE SECOND: `marks`, and the markings, place by place
 
 abbrev pub marks_name : List ℕ
-marks_name = 109 ∷ 97 ∷ 114 ∷ 107 ∷ 115 ∷ []
+marks_name = codes "marks"
 
 abbrev pub marks_fields : List ℕ → List ℕ
 marks_fields state = tab (byte state 5) (λ p. word state (mark_at p))
@@ -60,7 +61,7 @@ pub data Opens (before : List ℕ) (at : ℕ) (told : Replayed) (state after : L
 -- THE OTHERS: `run`, and transition, age, count
 
 abbrev pub run_name : List ℕ
-run_name = 114 ∷ 117 ∷ 110 ∷ []
+run_name = codes "run"
 
 abbrev pub shape_in : List ℕ → Shape
 shape_in state = shape_of (byte state 5) (byte state 6) (byte state 7)
@@ -96,21 +97,18 @@ pub record ShowsState (N : Net) (b : List ℕ) : Type 0 where
 abbrev pub cells_shown : ℕ → List ℕ → ℕ
 cells_shown number state = cond (is_early number) 0 (cells_in state)
 
--- the lowest of so many cells, from `from` on, whose count is above 0, or their number where there is none
-unfoldable pub next_running : List ℕ → ℕ → ℕ → ℕ
-next_running state cells from = lowest cells cells (λ cell. leb from cell && ltb 0 (count_of state cell))
+-- the first of so many cells, from `from` on, whose count is above 0
+unfoldable pub next_running : List ℕ → ℕ → ℕ → Option ℕ
+next_running state cells from = find (λ cell. nat_lt 0 (count_of state cell)) (range_with_len from (cells - from))
 
--- there is such a cell, and room for the longest line
-abbrev pub does_go_on : ℕ → List ℕ → ℕ → ℕ → Bool
-does_go_on cells b at cell = ltb cell cells && leb (at + run_most) (length b)
-
--- the line of this cell and of each next one, one behind the other while there is room, stand from `at` to `end`; `next` is the cell whose
--- line is to come, or the number of cells; all else is as before
-pub data RunLines (state : List ℕ) (cells : ℕ) : List ℕ → ℕ → ℕ → List ℕ → ℕ → ℕ → Type 0 where
-  stop : {b : List ℕ} {at cell : ℕ} → does_go_on cells b at cell ≡ false → RunLines state cells b at cell b at cell
-  more : {b b₁ b' : List ℕ} {at at₁ end cell next : ℕ} → does_go_on cells b at cell ≡ true
+-- the line of this cell and of each next one, one behind the other while there is room for the longest line, stand from `at` to `end`; `next` is
+-- the cell whose line is to come, if any; all else is as before
+pub data RunLines (state : List ℕ) (cells : ℕ) : List ℕ → ℕ → Option ℕ → List ℕ → ℕ → Option ℕ → Type 0 where
+  over : {b : List ℕ} {at : ℕ} → RunLines state cells b at None b at None
+  full : {b : List ℕ} {at cell : ℕ} → length b < at + run_most → RunLines state cells b at (Some cell) b at (Some cell)
+  more : {b b₁ b' : List ℕ} {at at₁ end cell : ℕ} {next : Option ℕ} → at + run_most ≤ length b
       → Line b at run_name (cell_fields state cell) [] b₁ at₁ → RunLines state cells b₁ at₁ (next_running state cells (cell + 1)) b' end next
-      → RunLines state cells b at cell b' end next
+      → RunLines state cells b at (Some cell) b' end next
 
 -- so many cells can be read: none, or those of a state that can be shown
 pub data Reads (state : List ℕ) : ℕ → Type 0 where
@@ -118,7 +116,7 @@ pub data Reads (state : List ℕ) : ℕ → Type 0 where
   whole : Shown state → Reads state (cells_in state)
 
 -- the first buffer that is written: from `at` on the opening, and behind it the lines of the counts as far as there is room
-pub record FirstSheet (before : List ℕ) (at : ℕ) (told : Replayed) (state after : List ℕ) (end next : ℕ) : Type 0 where
+pub record FirstSheet (before : List ℕ) (at : ℕ) (told : Replayed) (state after : List ℕ) (end : ℕ) (next : Option ℕ) : Type 0 where
   pub opened : List ℕ
   pub behind : ℕ
   pub opens : Opens before at told state opened behind
@@ -126,13 +124,13 @@ pub record FirstSheet (before : List ℕ) (at : ℕ) (told : Replayed) (state af
 
 -- the buffers that are written after it: each has at its front the lines of the counts that were to come, as far as there is room; `after` is
 -- the last of them, and there is none where no cell was to come
-pub data Sheets (state : List ℕ) (cells : ℕ) : List ℕ → ℕ → List ℕ → Type 0 where
-  last : {b : List ℕ} {next : ℕ} → ltb next cells ≡ false → Sheets state cells b next b
-  more : {b b₁ after : List ℕ} {next end next₁ : ℕ} → ltb next cells ≡ true → RunLines state cells b 0 (next_running state cells next) b₁ end next₁
-      → Sheets state cells b₁ next₁ after → Sheets state cells b next after
+pub data Sheets (state : List ℕ) (cells : ℕ) : List ℕ → Option ℕ → List ℕ → Type 0 where
+  last : {b : List ℕ} → Sheets state cells b None b
+  more : {b b₁ after : List ℕ} {cell end : ℕ} {next : Option ℕ} → RunLines state cells b 0 (next_running state cells cell) b₁ end next
+      → Sheets state cells b₁ next after → Sheets state cells b (Some cell) after
 
 -- and where not all of them were written: `now` is one of them, or the first
-pub data SheetsSoFar (state : List ℕ) (cells : ℕ) : List ℕ → ℕ → List ℕ → Type 0 where
-  here : {b : List ℕ} {next : ℕ} → SheetsSoFar state cells b next b
-  further : {b b₁ now : List ℕ} {next end next₁ : ℕ} → ltb next cells ≡ true → RunLines state cells b 0 (next_running state cells next) b₁ end next₁
-      → SheetsSoFar state cells b₁ next₁ now → SheetsSoFar state cells b next now
+pub data SheetsSoFar (state : List ℕ) (cells : ℕ) : List ℕ → Option ℕ → List ℕ → Type 0 where
+  here : {b : List ℕ} {next : Option ℕ} → SheetsSoFar state cells b next b
+  further : {b b₁ now : List ℕ} {cell end : ℕ} {next : Option ℕ} → RunLines state cells b 0 (next_running state cells cell) b₁ end next
+      → SheetsSoFar state cells b₁ next now → SheetsSoFar state cells b (Some cell) now

@@ -1,6 +1,6 @@
 // The lines that menurun prints, each put into a lent buffer. A function that puts a line answers the place behind it. Which lines there
 // are is answered here too, so that a program has only to write them.
-ghost use Rattle.std.specs.Prelude.{◌≡◌, [], ◌+◌, ◌*◌, ◌<◌, ◌≤◌, length};
+ghost use Rattle.std.specs.Prelude.{◌≡◌, [], ◌+◌, ◌*◌, ◌<◌, ◌≤◌, length, IfSome};
 ghost use Rattle.text.specs.Lines.{Line};
 ghost use Rattle.replay.specs.Replayed.{Shown};
 ghost use Rattle.replay.specs.Lines.{result_name, result_fields, marks_name, marks_fields, run_name, run_fields, cell_fields};
@@ -17,11 +17,11 @@ use text::line;
 // The line of a count has at most so many bytes: its name, transition, age and count, and its end.
 pub const RUN_MOST: usize = 3 + 3 * line::FIELD_MOST + 1;
 
-// How far the lines of the counts have come: the place behind the last of them, and the cell whose line is to come.
+// How far the lines of the counts have come: the place behind the last of them, and the cell whose line is to come, if any.
 #[derive(Clone, Copy)]
 pub struct Filled {
     pub end: usize,
-    pub next: usize,
+    pub next: Option<usize>,
 }
 
 // The line of the result.
@@ -44,6 +44,7 @@ pub fn result(out: &mut [u8], at: usize, told: Replayed) -> usize
 }
 
 // The line of the markings, place by place.
+#[tactic(auto, unfolding(forms::specs::Places::state_length))]
 pub fn marks(out: &mut [u8], at: usize, state: &[u8]) -> usize
     requires marks_most_in_bounds { at + marks_most ≤ length out.old }
     requires shown { Shown state.now }
@@ -52,11 +53,9 @@ pub fn marks(out: &mut [u8], at: usize, state: &[u8]) -> usize
 {
     let places = words::wide(state[places::PLACES_AT]);
     let mut end = line::put_bytes(out, at, b"marks");
-    let mut p = 0;
-    while p < places {
+    for p in 0..places {
         let tokens = words::read16(state, places::mark_at(p));
         end = line::put_field(out, end, tokens as u64);
-        p += 1;
     }
     line::put_byte(out, end, b'\n')
 }
@@ -68,12 +67,12 @@ pub fn opening(out: &mut [u8], at: usize, told: Replayed, state: &[u8]) -> usize
     ensures upper_bound { result ≤ at + least_buffer }
     ensures opens { Opens out.old at told state.now out.new result }
 {
-    let number = told.number;
     let end = result(out, at, told);
-    if input::is_early(number) {
-        return end;
+    if input::is_early(told.number) {
+        end
+    } else {
+        marks(out, end, state)
     }
-    marks(out, end, state)
 }
 
 // The shape that the state's own head says.
@@ -95,12 +94,14 @@ pub fn cells_shown(number: u8, state: &[u8]) -> usize
     ensures { result ≡ cells_shown number state.now }
 {
     if input::is_early(number) {
-        return 0;
+        0
+    } else {
+        places::cells(shape_in(state))
     }
-    places::cells(shape_in(state))
 }
 
 // The count of a cell.
+#[tactic(auto, using(crate::proofs::Cells::cell_inside), unfolding(crate::specs::Lines::count_of))]
 fn count(state: &[u8], cell: usize) -> usize
     requires shown { Shown state.now }
     requires cell_bound { cell < cells_in state.now }
@@ -114,21 +115,15 @@ fn count(state: &[u8], cell: usize) -> usize
     )
 }
 
-// The lowest of so many cells, from `from` on, whose count is above 0, or their number where there is none.
-pub fn next_running(state: &[u8], cells: usize, from: usize) -> usize
-    requires reads { Reads state.now cells }
-    requires from_le_cells { from ≤ cells }
+// The first of so many cells, from `from` on, whose count is above 0.
+#[tactic(auto, unfolding(crate::specs::Lines::next_running))]
+pub fn next_running(state: &[u8], cells: usize, from: usize) -> Option<usize>
+    requires { Reads state.now cells }
     ensures value { result ≡ next_running state.now cells from }
-    ensures lower_bound { (from ≤ result) × (result ≤ cells) }
+    ensures lower_bound { IfSome result (λ cell. from ≤ cell) }
+    ensures upper_bound { IfSome result (λ cell. cell < cells) }
 {
-    let mut cell = from;
-    while cell < cells {
-        if 0 < count(state, cell) {
-            return cell;
-        }
-        cell += 1;
-    }
-    cells
+    (from..cells).find(|cell| 0 < count(state, *cell))
 }
 
 // The line of a count.
@@ -155,22 +150,21 @@ pub fn run_of(out: &mut [u8], at: usize, state: &[u8], cell: usize) -> usize
 }
 
 // The lines of the counts above 0, from the cell `from` on, while there is room for the longest. A program goes on with the cell that is
-// to come once it has written the buffer; there is none where that is the number of cells.
+// to come once it has written the buffer.
 pub fn runs(out: &mut [u8], at: usize, state: &[u8], cells: usize, from: usize) -> Filled
     requires at_in_bounds { at ≤ length out.old }
     requires reads { Reads state.now cells }
-    requires from_le_cells { from ≤ cells }
     ensures end_in_bounds { result.end ≤ length out.new }
     ensures run_lines { RunLines state.now cells out.old at (next_running state.now cells from) out.new result.end result.next }
 {
     let mut end = at;
-    let mut cell = next_running(state, cells, from);
-    while cell < cells {
+    let mut next = next_running(state, cells, from);
+    while let Some(cell) = next {
         if out.len() - end < RUN_MOST {
-            return Filled { end, next: cell };
+            break;
         }
         end = run_of(out, end, state, cell);
-        cell = next_running(state, cells, cell + 1);
+        next = next_running(state, cells, cell + 1);
     }
-    Filled { end, next: cell }
+    Filled { end, next }
 }

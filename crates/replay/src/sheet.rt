@@ -5,19 +5,21 @@ ghost use Rattle.replay.specs.Replayed.{longest_state, replayed, replay_left};
 ghost use Rattle.replay.specs.Lines.{least_buffer, run_most, cells_shown, LateShown, Reads, FirstSheet, Sheets, SheetsSoFar};
 
 use crate::input::Replayed;
+use crate::lines::Filled;
 use crate::{input, lines};
 use std::io;
 use std::io::Write;
 
-// The place behind the last line, the cell whose line is to come, and how many cells are looked at; `print` goes on from there.
+// The place behind the last line, the cell whose line is to come, if any, and how many cells are looked at; `print` goes on from there.
 #[derive(Clone, Copy)]
 pub struct Sheet {
     pub end: usize,
-    pub next: usize,
+    pub next: Option<usize>,
     pub cells: usize,
 }
 
 // Puts what is to be printed of a replay into the buffer.
+#[tactic(auto, using(crate::proofs::Shown::late_reads))]
 pub fn show(out: &mut [u8], at: usize, told: Replayed, state: &[u8]) -> Sheet
     requires least_buffer_in_bounds { at + least_buffer ≤ length out.old }
     requires late_shown { LateShown told.number state.now }
@@ -25,18 +27,14 @@ pub fn show(out: &mut [u8], at: usize, told: Replayed, state: &[u8]) -> Sheet
     ensures cells_value { result.cells ≡ cells_shown told.number state.now }
     ensures end_in_bounds { (result.end ≤ length out.new) × Reads state.now result.cells }
 {
-    let number = told.number;
     let behind = lines::opening(out, at, told, state);
-    let cells = lines::cells_shown(number, state);
-    let filled = lines::runs(out, behind, state, cells, 0);
-    Sheet {
-        end: filled.end,
-        next: filled.next,
-        cells,
-    }
+    let cells = lines::cells_shown(told.number, state);
+    let Filled { end, next } = lines::runs(out, behind, state, cells, 0);
+    Sheet { end, next, cells }
 }
 
 // Replays an input, and puts what is to be printed into the buffer. There is room for every state, so that 7 is not told for want of it.
+#[tactic(auto, using(crate::proofs::Shown::late_shown))]
 pub fn first(input: &[u8], state: &mut [u8], out: &mut [u8]) -> Sheet
     requires longest_state_in_bounds { longest_state ≤ length state.old }
     requires least_buffer_in_bounds { least_buffer ≤ length out.old }
@@ -57,12 +55,14 @@ pub fn print<W: Write>(to: &mut W, out: &mut [u8], state: &[u8], sheet: Sheet) -
     ensures ok { OnOk result (Sheets state.now sheet.cells out.old sheet.next out.new) }
     ensures err { OnErr result (SheetsSoFar state.now sheet.cells out.old sheet.next out.new) }
 {
-    let cells = sheet.cells;
-    let mut end = sheet.end;
-    let mut next = sheet.next;
-    while next < cells {
+    let Sheet {
+        mut end,
+        mut next,
+        cells,
+    } = sheet;
+    while let Some(cell) = next {
         to.write_all(&out[..end])?;
-        let filled = lines::runs(out, 0, state, cells, next);
+        let filled = lines::runs(out, 0, state, cells, cell);
         end = filled.end;
         next = filled.next;
     }

@@ -1,42 +1,24 @@
--- `arguments::number_of` meets its contract. The loop keeps that all bytes so far are digits, and what they say.
-use native.Mathlib.Omega.{arith}
-use Rattle.model.proofs.Alls.{all-begin}
-use Rattle.pageshow.proofs.Words.{figure, none, too_many, below-digits, above-digits, too_large, budget-is, figure-turn, value-begins, value-turn, small-turn}
+-- `arguments::number_of` meets its contract.
+use Rattle.std.proofs.Common.{◌∙◌, sym, arith}
+use Rattle.std.proofs.lemmas.Bool.Decides.{nat_tests}
+use Rattle.pageshow.proofs.Words.{other_length, stuck, digit_more, whole}
 use Rattle.pageshow.proofs.arguments.number_of.Goals as goal
 
-pub returns-then-word-lt1 : goal.returns-then-word-lt1
-returns-then-word-lt1 c = none c.args.word.now c.if-word-lt1.true
+pub returns-then-not-contains : goal.returns-then-not-contains
+returns-then-not-contains c = other_length c.args.word.now (λ h. let z = c.if-not-contains.ensures.cases in grind (arith, nat_tests))
 
-pub returns-then-word-gt-DIGITS_MOST : goal.returns-then-word-gt-DIGITS_MOST
-returns-then-word-gt-DIGITS_MOST c = too_many c.args.word.now c.if-word-lt1.false c.if-word-gt-DIGITS_MOST.true
+pub returns-in_err-n : goal.returns-in_err-n
+returns-in_err-n c =
+    c.from_residual.ensures
+    ∙ stuck c.args.word.now c.loop-byte.byte-index c.loop-byte.n c.loop-byte-test.true c.loop-byte.invariant.value
+    (sym c.with_digit.ensures ∙ c.in_err-n.was)
 
-pub loop-i-init : goal.loop-i-init
-loop-i-init c =
-    let w = c.args.word.now in
-    (omega arith, omega arith, value-begins w, all-begin (figure w))
-
-pub returns-then-digit-lt48 : goal.returns-then-digit-lt48
-returns-then-digit-lt48 c =
-    below-digits c.args.word.now c.if-word-lt1.false c.if-word-gt-DIGITS_MOST.false c.loop-i.i c.loop-i-test.true c.if-digit-lt48.true
-
-pub returns-then-digit-gt57 : goal.returns-then-digit-gt57
-returns-then-digit-gt57 c =
-    above-digits c.args.word.now c.if-word-lt1.false c.if-word-gt-DIGITS_MOST.false c.loop-i.i c.loop-i-test.true c.if-digit-lt48.false c.if-digit-gt57.true
-
-pub loop-i-preserved : goal.loop-i-preserved
-loop-i-preserved c =
-    let w = c.args.word.now in
-    let d = c.wide in (
-      omega arith,
-      small-turn c.loop-i.i c.loop-i.n d.result c.loop-i.invariant.1 (omega (arith, d.ensures.0)),
-      value-turn w c.loop-i.i c.loop-i.n d.result c.loop-i.invariant.2 d.ensures.0,
-      figure-turn w c.loop-i.i c.if-digit-lt48.false c.if-digit-gt57.false c.loop-i.invariant.3,
-    )
-
-pub returns-then-n-gt-BUDGET_MOST : goal.returns-then-n-gt-BUDGET_MOST
-returns-then-n-gt-BUDGET_MOST c =
-    too_large c.args.word.now c.if-word-lt1.false c.if-word-gt-DIGITS_MOST.false c.loop-i.i c.loop-i.n c.loop-i-test.false c.loop-i.invariant.0 c.loop-i.invariant.3 c.loop-i.invariant.2 c.if-n-gt-BUDGET_MOST.true
+pub loop-byte-preserved : goal.loop-byte-preserved
+loop-byte-preserved c =
+    let both = digit_more c.args.word.now c.loop-byte.byte-index c.loop-byte.n c.loop-byte-test.true c.loop-byte.invariant.value
+    c.in_ok-n.n (sym c.with_digit.ensures ∙ c.in_ok-n.was) c.loop-byte.invariant.digits in record { digits = both.0; value = both.1 }
 
 pub returns : goal.returns
 returns c =
-    budget-is c.args.word.now c.if-word-lt1.false c.if-word-gt-DIGITS_MOST.false c.loop-i.i c.loop-i.n c.loop-i-test.false c.loop-i.invariant.0 c.loop-i.invariant.3 c.loop-i.invariant.2 c.if-n-gt-BUDGET_MOST.false
+    let within = c.if-not-contains.ensures.cases in
+    whole c.args.word.now (grind (arith, nat_tests)) c.loop-byte.byte-index c.loop-byte.n c.loop-byte-test.false (omega arith) c.loop-byte.invariant.digits c.loop-byte.invariant.value

@@ -1,15 +1,11 @@
--- `arguments::number_of` meets its contract. The loop keeps that all bytes so far are digits, and what they say.
-use mathlib.Core.Path.{◌≡◌}
-use mathlib.Core.Bool.{true}
-use Prim.Native.Nat.{◌-◌, ◌^◌, ◌<◌, ◌≤◌}
-use lib.ListN.{length}
-use Rattle.model.specs.Tab.{all}
-use Rattle.pageshow.specs.Arguments.{value_to}
-use Rattle.pageshow.proofs.Words.{figure}
+-- What is read so far is digits, and the number that they say.
+use Rattle.std.proofs.Common.{◌≡◌, true, take}
+use Rattle.std.specs.Str.{all_ascii_digits}
+use Rattle.std.specs.Str.Parse.{digits_value}
 use Rattle.pageshow.proofs.arguments.number_of.Given as goal
 
-abbrev pub invariant-loop-i : goal.invariant-loop-i
-invariant-loop-i l = (l.i ≤ length l.word) × (l.n < 10 ^ l.i) × (l.n ≡ value_to l.word l.i) × (all l.i (figure l.word) ≡ true)
-
-abbrev pub decreases-loop-i : goal.decreases-loop-i
-decreases-loop-i l = length l.word - l.i
+abbrev pub invariant-loop-byte : goal.invariant-loop-byte
+invariant-loop-byte l = record {
+  digits : all_ascii_digits (take l.byte-index l.word) ≡ true;
+  value : l.n ≡ digits_value 10 (take l.byte-index l.word);
+}

@@ -1,30 +1,35 @@
--- `lines::runs` meets its contract. The loop keeps that what is put from here on completes the lines.
-use native.Mathlib.Omega.{arith}
-use Rattle.replay.specs.Lines.RunLines.{stop, more}
-use Rattle.replay.proofs.Runs.{stops-full, stops-over, goes_on}
+use Rattle.std.proofs.Common.{Some, arith}
+use Rattle.replay.proofs.Runs.{ends, fills, goes_on}
 use Rattle.replay.proofs.lines.runs.Goals as goal
 
-pub returns-then-out-end-lt-RUN_MOST : goal.returns-then-out-end-lt-RUN_MOST
-returns-then-out-end-lt-RUN_MOST c =
+pub loop-next-preserved : goal.loop-next-preserved
+loop-next-preserved c =
     let a = c.args in
-    let o = c.loop-cell.out in
-    let full = stops-full a.cells o c.loop-cell.end c.loop-cell.cell c.loop-cell.invariant.1 c.if-out-end-lt-RUN_MOST.true in record { end_in_bounds = c.loop-cell.invariant.1; run_lines = rw c.next_running-cell.ensures.value at (c.loop-cell.invariant.3 o c.loop-cell.end c.loop-cell.cell (stop full)) }
-
-pub loop-cell-preserved : goal.loop-cell-preserved
-loop-cell-preserved c =
-    let a = c.args in
+    let t = c.loop-next in
     let run = c.run_of-end in
-    let o = c.loop-cell.out in
-    let goes = goes_on a.cells o c.loop-cell.end c.loop-cell.cell c.loop-cell-test.true c.loop-cell.invariant.1 c.if-out-end-lt-RUN_MOST.false in (
-      c.next_running-cell-in-loop-cell.ensures.lower_bound.1,
-      omega arith,
-      omega arith,
-      λ b e n lines.
-          c.loop-cell.invariant.3 b e n (more goes run.ensures.line (rw c.next_running-cell-in-loop-cell.ensures.value at lines)),
-    )
+    let later = c.next_running-next-in-Some in
+    record {
+      end_bound = omega (arith, run.ensures.upper_bound);
+      same_length = omega arith;
+      known = later.ensures.upper_bound;
+      completes = λ b e n lines.
+          t.invariant.completes b e n
+          (goes_on a.state.now a.cells t.out t.end t.next c.in-Some.cell c.in-Some.is t.invariant.end_bound c.if-out-end-lt-RUN_MOST.false
+          run.new.out b run.result e later.result n run.ensures.line later.ensures.value lines);
+    }
 
-pub returns : goal.returns
-returns c =
+pub returns-then-out-end-lt-RUN_MOST-clause-run_lines : goal.returns-then-out-end-lt-RUN_MOST-clause-run_lines
+returns-then-out-end-lt-RUN_MOST-clause-run_lines c =
     let a = c.args in
-    let o = c.loop-cell.out in
-    let over = stops-over a.cells o c.loop-cell.end c.loop-cell.cell c.loop-cell-test.false in record { end_in_bounds = c.loop-cell.invariant.1; run_lines = rw c.next_running-cell.ensures.value at (c.loop-cell.invariant.3 o c.loop-cell.end c.loop-cell.cell (stop over)) }
+    let t = c.loop-next in
+    let first = c.next_running-next.ensures.value in
+    rw (← first)
+    (t.invariant.completes t.out t.end (Some c.in-Some.cell)
+    (fills a.state.now a.cells t.out t.end t.next c.in-Some.cell c.in-Some.is t.invariant.end_bound c.if-out-end-lt-RUN_MOST.true))
+
+pub returns-in_default-clause-run_lines : goal.returns-in_default-clause-run_lines
+returns-in_default-clause-run_lines c =
+    let a = c.args in
+    let t = c.loop-next in
+    let first = c.next_running-next.ensures.value in
+    rw (← first) (t.invariant.completes t.out t.end t.next (ends a.state.now a.cells t.out t.end t.next c.in_default.is))
