@@ -148,9 +148,9 @@ module _ (ws s : List ℕ) where
         let m : q < p = omega (arith, front-length ws p (omega (arith, h.0.0))) in
         omega (arith, take-word q m, front-byte ws p (omega (arith, h.0.0)) q m, word_fits s (mark_at q) small)
 
-    pub take-back : Bytes s → (y : List ℕ) → y ≡ put_words (mark_at 0) (length (take p ws)) (after_giving (take p ws) 0 x) x → y ≡ taken ws 0 s (length ws)
+    pub take-undone : Bytes s → (y : List ℕ) → y ≡ put_words (mark_at 0) (length (take p ws)) (after_giving (take p ws) 0 x) x → y ≡ taken ws 0 s (length ws)
     unfolding taken short_place
-    take-back small y back =
+    take-undone small y back =
         back-again (after_taking ws 0 s) (after_giving (take p ws) 0 x) s x p _ small written (front-length ws p (omega (arith, h.0.0)))
         (λ q l. omega (arith, take-word q l, same (take p ws) q (0 + q) q (omega arith), front-byte ws p (omega (arith, h.0.0)) q l)) y back
         ∙ rw (ne_eqb (lowest (length ws) (length ws) (is_short ws 0 s)) (length ws) (λ e. omega (arith, h.0)))
@@ -212,10 +212,10 @@ module _ (ws s : List ℕ) where
           let m : q < p = omega (arith, front-length ws p (omega (arith, h.0.0))) in
           omega (arith, give-word q m, front-byte ws p (omega (arith, h.0.0)) q m)
 
-      pub give-back : Bytes s → (y : List ℕ) → y ≡ put_words (mark_at 0) (length (take p ws)) (after_taking (take p ws) 0 x) x
+      pub give-undone : Bytes s → (y : List ℕ) → y ≡ put_words (mark_at 0) (length (take p ws)) (after_taking (take p ws) 0 x) x
           → (false ≡ is_roomy ws 0 s (length ws)) × (y ≡ given ws 0 s (length ws))
       unfolding given
-      give-back small y back =
+      give-undone small y back =
           let no : is_roomy ws 0 s (length ws) ≡ false = sym (roomy p h.0.1) ∙ ne_eqb p (length ws) (λ e. omega (arith, h.0.0)) in
           let again : y ≡ s = back-again (after_giving ws 0 s) (after_taking (take p ws) 0 x) s x p _ small gave (front-length ws p (omega (arith, h.0.0)))
           (λ q l. omega (arith, give-word q l, same (take p ws) q (0 + q) q (omega arith), front-byte ws p (omega (arith, h.0.0)) q l)) y back in

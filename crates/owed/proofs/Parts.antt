@@ -1,4 +1,4 @@
--- The weights of a transition as a part of the net; and eight weights that are 0 at once.
+-- Where the lfd of a transition stands in the net, and its weights, which are a part of it.
 -- Assumes nothing.
 use mathlib.Core.Path.{◌≡◌, refl, ◌∙◌}
 use mathlib.Core.List.{List}
@@ -8,7 +8,7 @@ use lib.ListN.{length, take, drop, length-take, length-drop}
 use lib.Seq.{get_or-take, get_or-drop}
 use Rattle.model.specs.declared.net.Net.{Net as Shape}
 use Rattle.forms.specs.Word.{byte}
-use Rattle.forms.specs.Places.{row_at, row_length, inputs_at, outputs_at}
+use Rattle.forms.specs.Places.{row_at, row_length, lfd_at, inputs_at, outputs_at}
 use Rattle.forms.specs.Stored.{net_of}
 use Rattle.forms.specs.Frame.{FramedNet}
 use Rattle.forms.proofs.Nets.{row_inside}
@@ -26,6 +26,13 @@ module _ (net : List ℕ) (shape : Shape) (f : FramedNet net shape) (t : ℕ) (k
 
   row_fits : row_at shape.places t + row_length shape.places ≤ length net
   row_fits = rw (places_same net shape f) (row_inside net f.is_net t known)
+
+  pub lfd-fits : lfd_at shape.places t < length net
+  lfd-fits = omega (arith, row_fits)
+
+  pub lfd-stands : byte net (lfd_at shape.places t) ≡ (net_of net).lfd t
+  unfolding net_of
+  lfd-stands = rw (places_same net shape f) refl
 
   pub inputs-fit : (at : ℕ) → at ≡ inputs_at shape.places t → at + shape.places ≤ length net
   inputs-fit at e = omega (arith, row_fits)

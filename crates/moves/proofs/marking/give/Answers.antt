@@ -3,7 +3,7 @@ use Rattle.std.proofs.Common.{not, length, sym, rules, tests, arith}
 use Rattle.model.specs.Limits.{is_held}
 use Rattle.forms.specs.Word.{Bytes}
 use Rattle.moves.specs.Marking.{Changed, after_giving}
-use Rattle.moves.proofs.Weighing.{front-length, give-told, give-stays, give-all, give-had, give-back}
+use Rattle.moves.proofs.Weighing.{front-length, give-told, give-stays, give-all, give-had, give-undone}
 use Rattle.moves.proofs.marking.give.Goals as goal
 use Rattle.moves.proofs.marking.give.Goals.{After-change-full}
 
@@ -17,11 +17,10 @@ tried c =
       stays = λ p l z. give-stays _ _ small p z;
     }
 
-pub returns-in_default-clause-value : goal.returns-in_default-clause-value
-returns-in_default-clause-value c = (give-all _ _ _ (rw c.in_default.is at (tried (goal.at.returns-in_default-clause-value c).After-change-full))).0
-
-pub returns-in_default-clause-state_after : goal.returns-in_default-clause-state_after
-returns-in_default-clause-state_after c = (give-all _ _ _ (rw c.in_default.is at (tried (goal.at.returns-in_default-clause-state_after c).After-change-full))).1
+pub returns-in_default : goal.returns-in_default
+returns-in_default c =
+    let both = give-all _ _ _ (rw c.in_default.is at (tried (goal.at.returns-in_default c).After-change-full)) in
+    record { value = both.0; state_after = both.1 }
 
 pub slice_bounds-take_back-end : goal.slice_bounds-take_back-end
 slice_bounds-take_back-end c =
@@ -32,12 +31,8 @@ pub take_back-requires-clause-by_index : goal.take_back-requires-clause-by_index
 take_back-requires-clause-by_index c =
     give-had _ _ _ c.in-Some.p (rw c.in-Some.is at (tried (goal.at.take_back-requires-clause-by_index c).After-change-full)) c.requires.1
 
-pub returns-clause-value : goal.returns-clause-value
-returns-clause-value c =
+pub returns : goal.returns
+returns c =
     let small : Bytes c.args.state.now = search rules in
-    (give-back _ _ _ c.in-Some.p (rw c.in-Some.is at (tried (goal.at.returns-clause-value c).After-change-full)) c.requires.1 small _ c.take_back.ensures).0
-
-pub returns-clause-state_after : goal.returns-clause-state_after
-returns-clause-state_after c =
-    let small : Bytes c.args.state.now = search rules in
-    (give-back _ _ _ c.in-Some.p (rw c.in-Some.is at (tried (goal.at.returns-clause-state_after c).After-change-full)) c.requires.1 small _ c.take_back.ensures).1
+    let both = give-undone _ _ _ c.in-Some.p (rw c.in-Some.is at (tried (goal.at.returns c).After-change-full)) c.requires.1 small _ c.take_back.ensures in
+    record { value = both.0; state_after = both.1 }

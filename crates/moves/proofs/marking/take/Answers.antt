@@ -5,7 +5,7 @@ use Rattle.forms.specs.Places.{mark_at}
 use Rattle.owed.specs.Marks.{is_short, short_place}
 use Rattle.moves.proofs.Weighing.{front-length}
 use Rattle.moves.specs.Marking.{Changed, after_taking}
-use Rattle.moves.proofs.Weighing.{take-told, take-stays, take-all, take-held, take-back}
+use Rattle.moves.proofs.Weighing.{take-told, take-stays, take-all, take-held, take-undone}
 use Rattle.moves.proofs.marking.take.Goals as goal
 use Rattle.moves.proofs.marking.take.Goals.{After-change-short}
 
@@ -34,22 +34,15 @@ give_back-requires-clause-by_index c =
     let small : Bytes c.args.state.now = search rules in
     take-held _ _ _ c.in-Some.p first c.requires.1 small
 
-pub returns-in-Some-clause-value : goal.returns-in-Some-clause-value
+pub returns-in-Some : goal.returns-in-Some
 unfolding short_place
-returns-in-Some-clause-value c =
-    let first = rw c.in-Some.is at (tried (goal.at.returns-in-Some-clause-value c).After-change-short) in first.0
-
-pub returns-in-Some-clause-state_after : goal.returns-in-Some-clause-state_after
-returns-in-Some-clause-state_after c =
-    let first = rw c.in-Some.is at (tried (goal.at.returns-in-Some-clause-state_after c).After-change-short) in
+returns-in-Some c =
+    let first = rw c.in-Some.is at (tried (goal.at.returns-in-Some c).After-change-short) in
     let small : Bytes c.args.state.now = search rules in
-    take-back _ _ _ c.in-Some.p first c.requires.1 small _ c.give_back.ensures
+    record { value = first.0; state_after = take-undone _ _ _ c.in-Some.p first c.requires.1 small _ c.give_back.ensures }
 
-pub returns-in_default-clause-value : goal.returns-in_default-clause-value
+pub returns-in_default : goal.returns-in_default
 unfolding short_place
-returns-in_default-clause-value c = (tried (goal.at.returns-in_default-clause-value c).After-change-short).0
-
-pub returns-in_default-clause-state_after : goal.returns-in_default-clause-state_after
-returns-in_default-clause-state_after c =
-    let none = rw c.in_default.is at (tried (goal.at.returns-in_default-clause-state_after c).After-change-short) in
-    take-all _ _ _ none
+returns-in_default c =
+    let first = tried (goal.at.returns-in_default c).After-change-short in
+    record { value = first.0; state_after = take-all _ _ _ (rw c.in_default.is at first) }
