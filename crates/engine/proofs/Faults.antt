@@ -20,7 +20,7 @@ use Rattle.forms.proofs.Logs.{log-exact, log-faulty}
 use Rattle.engine.specs.Examined.{Examined, if_good, then_check, examine_net, examine_state, examine_log}
 use Rattle.engine.specs.Demands.{Passes}
 use Rattle.engine.specs.Faults.{StateUnfit, LogUnfit, Examines}
-use Rattle.engine.proofs.Fits.{good-then, bad-then, fit_then, net-unfit}
+use Rattle.engine.proofs.Fits.{good-then, bad-then, fit_then}
 
 -- ONE CHECK BEHIND ANOTHER
 
@@ -41,7 +41,7 @@ passes before check (s, e) g = (s, rw (e, g))
 
 -- a log has one fault
 only : (b : Bool) (why : Fault) → unless b fault.LogFrame (Ok tt) ≡ Err why → fault.LogFrame ≡ why
-only true why e = let z : ◌≡◌ {A = ℕ} 0 1 = cc in absurd (omega arith)
+only true why e = cc
 only false why e = cc
 
 pub log-only : (log : List ℕ) (why : Fault) → check_log log ≡ Err why → fault.LogFrame ≡ why
@@ -68,7 +68,7 @@ module _ (net : List ℕ) where
 
   bad-net : (why : Fault) → check_net net ≡ Err why → examine_net net ≡ Err why
   unfolding examine_net
-  bad-net why e = sym (net-unfit net e)
+  bad-net why e = rw e
 
   -- AND WHAT FOLLOWS
 

@@ -1,7 +1,7 @@
 -- What an examination that finds no fault gives: bytes in their frame. And how the examinations follow one another.
 -- Assumes nothing.
 use Rattle.std.proofs.Common.{Bor, Ok, Err}
-use mathlib.Core.Path.{◌≡◌, refl, ap}
+use mathlib.Core.Path.{◌≡◌, refl, sym}
 use mathlib.Core.List.{List}
 use Prim.Native.Nat.{ℕ}
 use native.Mathlib.Omega.{arith}
@@ -28,16 +28,16 @@ shape N = shape_of N.places N.transitions (width N)
 pub good-then : (check : Checked) (rest : Examined) {s : Shape} → if_good check rest ≡ Ok s
     → (check ≡ Ok tt) × (rest ≡ Ok s)
 good-then (Ok tt) rest e = (refl, e)
-good-then (Err why) rest e = let z : ◌≡◌ {A = ℕ} 0 1 = cc in absurd (omega arith)
+good-then (Err why) rest e = cc
 
 pub bad-then : (check : Checked) (s : Shape) {why : Fault} → if_good check (Ok s) ≡ Err why → check ≡ Err why
-bad-then (Ok tt) s e = let z : ◌≡◌ {A = ℕ} 0 1 = cc in absurd (omega arith)
-bad-then (Err other) s {why} e = let z : other ≡ why = cc in ap Err z
+bad-then (Ok tt) s e = cc
+bad-then (Err other) s e = cc
 
 pub fit_then : (before : Examined) (check : Checked) {s : Shape} → then_check before check ≡ Ok s
     → (before ≡ Ok s) × (check ≡ Ok tt)
 fit_then (Ok s) check e = let g = good-then check (Ok s) e in (g.1, g.0)
-fit_then (Err why) check e = let z : ◌≡◌ {A = ℕ} 0 1 = cc in absurd (omega arith)
+fit_then (Err why) check e = cc
 
 -- WHAT IS GIVEN
 
@@ -73,24 +73,9 @@ module _ (bytes : Bor (List ℕ)) (net : CheckedNet) where
       → Framed net.bytes.now net.shape state × IsLog log
   log-found state log (e, same) = rw same (log-fits bytes.now net.shape state log e)
 
--- HOW THEY FOLLOW ONE ANOTHER
+-- A NET THAT IS GOOD IS FOUND FIT
 
-pub net-fit : (net : List ℕ) (s : Shape) → check_net net ≡ Ok tt → HasShape (net_of net) s → Ok s ≡ examine_net net
+pub net-fit : (net : List ℕ) (s : Shape) → check_net net ≡ Ok tt → HasShape (net_of net) s → examine_net net ≡ Ok s
 unfolding examine_net
 net-fit net s g h =
-    rw g (λ i. Ok (record { places = h.places_are i; transitions = h.transitions_are i; width = h.width_is i }))
-
-pub net-unfit : (net : List ℕ) {why : Fault} → check_net net ≡ Err why → Err why ≡ examine_net net
-unfolding examine_net
-net-unfit net g = rw g
-
--- one more check, behind what was found so far
-module _ (before : Examined) (check : Checked) where
-  pub still-unfit : {why : Fault} → before ≡ Err why → before ≡ then_check before check
-  still-unfit e = rw e
-
-  pub still-fit : {s : Shape} → before ≡ Ok s → check ≡ Ok tt → Ok s ≡ then_check before check
-  still-fit e g = rw (e, g)
-
-  pub now-unfit : {s : Shape} {why : Fault} → before ≡ Ok s → check ≡ Err why → Err why ≡ then_check before check
-  now-unfit e g = rw (e, g)
+    rw g (sym (λ i. Ok (record { places = h.places_are i; transitions = h.transitions_are i; width = h.width_is i })))

@@ -23,22 +23,22 @@ use Rattle.engine.specs.Examined.{examine_net, examine_state, examine_log}
 use Rattle.engine.specs.Answers.{answered, event_answered, degree_of, owed_of}
 use Rattle.engine.specs.Calls.{event_told, event_left, back_told, back_left}
 use Rattle.engine.specs.Calls.{degree_told, owed_told, events_part, run_told, run_left, walk_told, walk_left}
-use Rattle.engine.proofs.Fits.{net-fit, still-fit}
+use Rattle.engine.proofs.Fits.{net-fit}
 use Rattle.engine.proofs.Courses.{ComesTo}
 
 -- BYTES IN THEIR FRAME ARE FOUND FIT
 
 module _ (net : List ℕ) (shape : Shape) (b : List ℕ) (f : Framed net shape b) where
   fits-net : examine_net net ≡ Ok shape
-  fits-net = sym (net-fit net shape ((net-exact net).1 f.net_framed.is_net) f.net_framed.has_shape)
+  fits-net = net-fit net shape ((net-exact net).1 f.net_framed.is_net) f.net_framed.has_shape
 
   pub fits-state : examine_state net b ≡ Ok shape
   unfolding examine_state
-  fits-state = sym (still-fit (examine_net net) (check_state (net_of net) b) fits-net ((state-exact (net_of net) b).1 f.is_state))
+  fits-state = rw (fits-net, (state-exact (net_of net) b).1 f.is_state)
 
   pub fits-log : (log : List ℕ) → IsLog log → examine_log net b log ≡ Ok shape
   unfolding examine_log
-  fits-log log l = sym (still-fit (examine_state net b) (check_log log) fits-state ((log-exact log).1 l))
+  fits-log log l = rw (fits-state, (log-exact log).1 l)
 
 -- WHAT THE CALLS TELL AND LEAVE, BEHIND THEIR CHECKS
 

@@ -47,12 +47,12 @@ abbrev six : List Event
 six = end_at 1 4 ∷ end_at 1 4 ∷ end_at 2 1 ∷ event.Start 0 ∷ event.Start 0 ∷ event.Start 0 ∷ event.Tick ∷ []
 
 not_yet : (k : ℕ) → k ≤ 5 → ¬ (event_at six k ≡ event.Tick)
-not_yet zero l q = let z : ◌≡◌ {A = ℕ} 0 1 = cc in omega arith
-not_yet (suc zero) l q = let z : ◌≡◌ {A = ℕ} 0 1 = cc in omega arith
-not_yet (suc (suc zero)) l q = let z : ◌≡◌ {A = ℕ} 0 1 = cc in omega arith
-not_yet (suc (suc (suc zero))) l q = let z : ◌≡◌ {A = ℕ} 0 1 = cc in omega arith
-not_yet (suc (suc (suc (suc zero)))) l q = let z : ◌≡◌ {A = ℕ} 0 1 = cc in omega arith
-not_yet (suc (suc (suc (suc (suc zero))))) l q = let z : ◌≡◌ {A = ℕ} 0 1 = cc in omega arith
+not_yet zero l q = cc
+not_yet (suc zero) l q = cc
+not_yet (suc (suc zero)) l q = cc
+not_yet (suc (suc (suc zero))) l q = cc
+not_yet (suc (suc (suc (suc zero)))) l q = cc
+not_yet (suc (suc (suc (suc (suc zero))))) l q = cc
 not_yet (suc (suc (suc (suc (suc (suc k)))))) l q = omega arith
 
 later : (p : Page) → p.events ≡ six → ¬ Soon p 5
@@ -123,8 +123,8 @@ unfolding page
 turns = rw (chooses-start, does-start, chooses-end, does-end) (rw chooses-start refl)
 
 no_tick : (k : ℕ) → k ≤ 1 → ¬ (event_at (event.Start 0 ∷ end_at_lfd spin 0 ∷ []) k ≡ event.Tick)
-no_tick zero l q = let z : ◌≡◌ {A = ℕ} 0 1 = cc in omega arith
-no_tick (suc zero) l q = let z : ◌≡◌ {A = ℕ} 0 1 = cc in omega arith
+no_tick zero l q = cc
+no_tick (suc zero) l q = cc
 no_tick (suc (suc k)) l q = omega arith
 
 spins : ¬ Soon turn 1

@@ -21,9 +21,6 @@ use Rattle.engine.specs.Examined.{examine_state}
 use Rattle.engine.proofs.Fits.{fit_then, state-fits}
 use Rattle.runner.specs.Call.{check_buffer, examine_page}
 
-pub short-buffer : (log : List ℕ) → length log < 5 → check_buffer log ≡ Err fault.LogFrame
-short-buffer log h = rw (told-false (leb_tells 5 (length log)) (λ l. omega arith))
-
 pub long-buffer : (log : List ℕ) → 5 ≤ length log → check_buffer log ≡ Ok tt
 long-buffer log h = rw (told-true (leb_tells 5 (length log)) h)
 
@@ -33,7 +30,7 @@ buffer-fits log e = holds (leb_tells 5 (length log)) (passes (leb 5 (length log)
   where
     passes : (b : Bool) → unless b fault.LogFrame (Ok tt) ≡ Ok tt → b ≡ true
     passes true q = refl
-    passes false q = let z : ◌≡◌ {A = ℕ} 0 1 = cc in absurd (omega arith)
+    passes false q = cc
 
 -- and one that is not has none
 pub buffer-lacks : (log : List ℕ) (why : Fault) → check_buffer log ≡ Err why → (fault.LogFrame ≡ why) × (length log < 5)
@@ -42,7 +39,7 @@ buffer-lacks log why e =
     (q, below-or-past (length log) 5 (λ h. h) (λ h. absurd (lacks (leb_tells 5 (length log)) f h)))
   where
     fails : (b : Bool) → unless b fault.LogFrame (Ok tt) ≡ Err why → (fault.LogFrame ≡ why) × (b ≡ false)
-    fails true q = let z : ◌≡◌ {A = ℕ} 0 1 = cc in absurd (omega arith)
+    fails true q = cc
     fails false q = (cc, refl)
 
 module _ (net : List ℕ) (s : Shape) (state log : List ℕ) (fit : examine_page net state log ≡ Ok s) where

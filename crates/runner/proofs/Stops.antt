@@ -149,7 +149,7 @@ pub data Met : Event → Refusal → Type 0 where
 module _ (N : Net) (proper : Proper N) (S : State) where
   pub met : {e : Event} {why : Refusal} → Chooses N S e → Refuses N false S e why → Met e why
   met (Chooses.end (o, lower)) (Refuses.unfit (Unfit.no_such_end a)) = absurd (a o.0)
-  met (Chooses.end (o, lower)) (Refuses.not_enabled (u, e, l, f)) = let z : ◌≡◌ {A = ℕ} 0 1 = cc in absurd (omega arith)
+  met (Chooses.end (o, lower)) (Refuses.not_enabled (u, e, l, f)) = cc
   met (Chooses.end {t} (o, lower)) (Refuses.outside_interval l a) = absurd (a (proper.interval t l, omega arith))
   met (Chooses.end (o, lower)) (Refuses.old_after_start l i a) = absurd (a tt)
   met (Chooses.end (o, lower)) (Refuses.none_of_that_age l i _ a) = absurd (a o.1)
@@ -160,7 +160,7 @@ module _ (N : Net) (proper : Proper N) (S : State) where
   met (Chooses.start none (o, lower)) (Refuses.old_end_owed l en a) = absurd (a (λ u b old. none u b))
   met (Chooses.start none (o, lower)) (Refuses.count_full l en _ a) = Met.count_full
   met {why = why} (Chooses.tick none none' runs) (Refuses.unfit u) = elim u [ ]
-  met (Chooses.tick none none' runs) (Refuses.not_enabled (u, e, l, f)) = let z : ◌≡◌ {A = ℕ} 0 1 = cc in absurd (omega arith)
+  met (Chooses.tick none none' runs) (Refuses.not_enabled (u, e, l, f)) = cc
   met (Chooses.tick none none' runs) (Refuses.start_owed a) = absurd (a none')
   met (Chooses.tick none none' runs) (Refuses.end_owed n a) = absurd (a none)
   met (Chooses.tick none none' runs) (Refuses.nothing_running n d a) = absurd (runs a)
@@ -183,4 +183,4 @@ module _ (N : Net) (proper : Proper N) (S : State) where
       }
         where
           apart : ¬ (refused refusal.PlaceFull ≡ refused refusal.CountFull)
-          apart q = let z : ◌≡◌ {A = ℕ} 0 1 = cc in omega arith
+          apart q = cc
