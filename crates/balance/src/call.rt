@@ -65,7 +65,7 @@ pub fn balance(net: &[u8], state: &[u8], weights: &[u8]) -> BalanceTold
     ensures balance_promise { BalancePromise net.now state.now weights.now result }
 {
     match examine::examine_state(net, state) {
-        Ok(net) => weigh::weigh(net.bytes, net.shape, state, weights).into(),
+        Ok(net) => weigh::weigh(net, state, weights).into(),
         Err(fault) => fault.into(),
     }
 }

@@ -5,14 +5,14 @@ ghost use Rattle.model.specs.Tab.{sum};
 ghost use Rattle.forms.specs.Word.{byte, word};
 ghost use Rattle.forms.specs.Places.{mark_at};
 ghost use Rattle.forms.specs.Stored.{net_of, stored};
-ghost use Rattle.forms.specs.Frame.{Framed};
+ghost use Rattle.forms.specs.States.{IsState};
 ghost use Rattle.balance.specs.Bounds.{arc_most, tokens_most, word_most};
 ghost use Rattle.balance.specs.Weights.{weighed};
 ghost use Rattle.balance.specs.Told.{weight_at, weighing, checked_weighing};
 
+use forms::checked::CheckedNet;
 use forms::{places, words};
 use model::age::Age;
-use model::net::Net;
 
 // Why a net and weights have no total.
 #[derive(Clone, Copy)]
@@ -29,7 +29,7 @@ fn arcs(net: &[u8], from: usize, weights: &[u8], places: usize) -> usize
     ensures { (result ≡ weighed places (weight_at weights.now) (λ p. byte net.now (from + p))) × (result ≤ places * arc_most) }
 {
     (0..places)
-        .map(|p| words::read16(weights, 2 * p) * words::wide(net[from + p]))
+        .map(|p| words::read16(weights, 2 * p) * usize::from(net[from + p]))
         .sum()
 }
 
@@ -52,31 +52,33 @@ fn words_sum(s: &[u8], at: usize, n: usize) -> usize
 }
 
 // The state, weighed transition by transition; the first that is unbalanced ends it.
-fn weigh_all(net: &[u8], shape: Net, state: &[u8], weights: &[u8]) -> Result<u64, Imbalance>
-    requires { Framed net.now shape state.now × (2 * shape.places ≤ length weights.now) }
-    ensures { result ≡ weighing (net_of net.now) (weight_at weights.now) (stored net.now state.now) }
+#[tactic(auto, using(forms::proofs::CheckedNets::limits))]
+fn weigh_all(net: CheckedNet, state: &[u8], weights: &[u8]) -> Result<u64, Imbalance>
+    requires { IsState (net_of net.bytes.now) state.now × (2 * net.shape.places ≤ length weights.now) }
+    ensures { result ≡ weighing (net_of net.entry.bytes.now) (weight_at weights.now) (stored net.entry.bytes.now state.now) }
 {
-    let places = shape.places;
+    let places = net.shape.places;
     let mut total = marking(state, weights, places);
-    for t in 0..shape.transitions {
-        let taken = arcs(net, places::inputs_at(places, t), weights, places);
-        let given = arcs(net, places::outputs_at(places, t), weights, places);
+    for t in 0..net.shape.transitions {
+        let taken = arcs(net.bytes, places::inputs_at(places, t), weights, places);
+        let given = arcs(net.bytes, places::outputs_at(places, t), weights, places);
         if taken != given {
             return Err(Imbalance::Unbalanced(t));
         }
-        let row = places::count_at(shape, t, Age(0).column());
-        total += words_sum(state, row, shape.width) * taken;
+        let row = places::count_at(net.shape, t, Age(0).column());
+        total += words_sum(state, row, net.shape.width) * taken;
     }
     Ok(total as u64)
 }
 
 // The state weighed by weights of two bytes for each place.
-pub fn weigh(net: &[u8], shape: Net, state: &[u8], weights: &[u8]) -> Result<u64, Imbalance>
-    requires { Framed net.now shape state.now }
-    ensures { result ≡ checked_weighing (net_of net.now) weights.now (stored net.now state.now) }
+#[tactic(auto, using(std::proofs::lemmas::Bool::Decides::nat_tests), unfolding(crate::specs::Told::checked_weighing))]
+pub fn weigh(net: CheckedNet, state: &[u8], weights: &[u8]) -> Result<u64, Imbalance>
+    requires { IsState (net_of net.bytes.now) state.now }
+    ensures { result ≡ checked_weighing (net_of net.entry.bytes.now) weights.now (stored net.entry.bytes.now state.now) }
 {
-    if weights.len() != 2 * shape.places {
+    if weights.len() != 2 * net.shape.places {
         return Err(Imbalance::NoWeights);
     }
-    weigh_all(net, shape, state, weights)
+    weigh_all(net, state, weights)
 }

@@ -2,47 +2,38 @@
 -- firings weigh.
 use mathlib.Core.Path.{◌∙◌}
 use native.Mathlib.Omega.{arith}
+use Rattle.forms.proofs.CheckedNets.{framed}
 use Rattle.forms.proofs.States.{places-small}
-use Rattle.forms.proofs.Inside.{marks-inside, inputs-inside, outputs-inside}
+use Rattle.forms.proofs.Inside.{marks-inside}
 use Rattle.balance.specs.Told.{weight_at}
 use Rattle.balance.proofs.Bounds.{firings-bound}
-use Rattle.balance.proofs.Turns.{narrow, is_row, row_inside, running-is, weighs-begin, weighs-turn, unbalanced-found, weighs-all}
+use Rattle.balance.proofs.Turns.{narrow, row_inside, running-is, weighs-begin, weighs-turn, unbalanced-found, weighs-all}
 use Rattle.balance.proofs.weigh.weigh_all.Goals as goal
 
 pub marking-total-requires : goal.marking-total-requires
 marking-total-requires c =
-    let f = c.requires.0 in (omega (arith, places-small _ _ f.net_framed), marks-inside _ _ _ f, c.requires.1)
+    let f = framed c.args.net c.requires.0 in (omega (arith, places-small _ _ f.net_framed), marks-inside _ _ _ f, c.requires.1)
 
 pub loop-t-init : goal.loop-t-init
-loop-t-init c = weighs-begin _ _ _ c.requires.0 (weight_at c.args.weights.now) _ c.marking-total.ensures.0 c.marking-total.ensures.1
-
-pub arcs-taken-requires : goal.arcs-taken-requires
-arcs-taken-requires c =
-    let f = c.requires.0 in
-    let i = inputs-inside _ _ _ f _ (is_row _ _ _ f _ c.loop-t-test.true) _ c.inputs_at.ensures in (i.0, i.1, c.requires.1)
-
-pub arcs-given-requires : goal.arcs-given-requires
-arcs-given-requires c =
-    let f = c.requires.0 in
-    let i = outputs-inside _ _ _ f _ (is_row _ _ _ f _ c.loop-t-test.true) _ c.outputs_at.ensures in (i.0, i.1, c.requires.1)
+loop-t-init c = weighs-begin _ _ _ (framed c.args.net c.requires.0) (weight_at c.args.weights.now) _ c.marking-total.ensures.0 c.marking-total.ensures.1
 
 pub returns-then-taken-given : goal.returns-then-taken-given
 returns-then-taken-given c =
-    unbalanced-found _ _ _ c.requires.0 (weight_at c.args.weights.now) _ _ _ _ _ _ c.loop-t.invariant c.loop-t-test.true
+    unbalanced-found _ _ _ (framed c.args.net c.requires.0) (weight_at c.args.weights.now) _ _ _ _ _ _ c.loop-t.invariant c.loop-t-test.true
     c.inputs_at.ensures c.arcs-taken.ensures.0 c.outputs_at.ensures c.arcs-given.ensures.0 c.if-taken-given.true
 
 pub words_sum-requires : goal.words_sum-requires
 words_sum-requires c =
-    let f = c.requires.0 in
+    let f = framed c.args.net c.requires.0 in
     (omega (arith, narrow _ _ _ f), row_inside _ _ _ f _ c.loop-t-test.true _ c.column.ensures _ c.count_at-row.ensures)
 
 pub loop-t-preserved : goal.loop-t-preserved
 loop-t-preserved c =
-    let f = c.requires.0 in
+    let f = framed c.args.net c.requires.0 in
     weighs-turn _ _ _ f (weight_at c.args.weights.now) _ _ _ _ _ _ c.loop-t.invariant c.loop-t-test.true
     c.inputs_at.ensures c.arcs-taken.ensures.0 c.outputs_at.ensures c.arcs-given.ensures.0 c.if-taken-given.false
     _ (c.words_sum.ensures.0 ∙ running-is _ _ _ f _ c.loop-t-test.true _ c.column.ensures _ c.count_at-row.ensures)
-    (firings-bound c.args.shape.width c.args.shape.places _ _ (narrow _ _ _ f) (places-small _ _ f.net_framed) c.words_sum.ensures.1 c.arcs-taken.ensures.1)
+    (firings-bound c.args.net.shape.width c.args.net.shape.places _ _ (narrow _ _ _ f) (places-small _ _ f.net_framed) c.words_sum.ensures.1 c.arcs-taken.ensures.1)
 
 pub returns : goal.returns
-returns c = weighs-all _ _ _ c.requires.0 (weight_at c.args.weights.now) _ _ c.loop-t.invariant c.loop-t-test.false
+returns c = weighs-all _ _ _ (framed c.args.net c.requires.0) (weight_at c.args.weights.now) _ _ c.loop-t.invariant c.loop-t-test.false

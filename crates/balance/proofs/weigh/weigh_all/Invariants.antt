@@ -5,4 +5,4 @@ use Rattle.balance.proofs.Turns.{Weighs}
 use Rattle.balance.proofs.weigh.weigh_all.Given as goal
 
 abbrev pub invariant-loop-t : goal.invariant-loop-t
-invariant-loop-t l = Weighs l.net l.shape l.state (weight_at l.weights) l.t l.total
+invariant-loop-t l = Weighs l.net.bytes.now l.net.shape l.state (weight_at l.weights) l.t l.total
