@@ -11,17 +11,14 @@ use Rattle.model.specs.Moves.{Enabled, Starts, Ends, Moves}
 use Rattle.model.proofs.Tab.{below-or-past, at-or-below, one-off}
 use Rattle.model.proofs.Shape.{lfd-fits}
 use Rattle.moves.proofs.Calm.{still-calm, still-runs}
-use Rattle.runner.specs.declared.clear.Clear.{Clear}
 use Rattle.runner.specs.Choice.{LowestOf, Chooses}
-use Rattle.runner.specs.Chosen.{LowestFrom, IsClear, clear_after}
+use Rattle.runner.specs.Chosen.{LowestFrom, clear_of, IsClear, clear_after}
 
-pub clear_first : (N : Net) (S : State) (c : Clear) → 0 < N.transitions → (c.ends ≡ 0) × (c.starts ≡ 0) → IsClear N S c
-clear_first N S c some (ends, starts) = record {
+pub clear_first : (N : Net) (S : State) → IsClear N S (clear_of 0 (Some 0))
+clear_first N S = record {
   ends_known = omega arith;
-  starts_known = omega arith;
   no_end = λ t h. absurd (omega arith);
-  no_start = λ t h. absurd (omega arith);
-  runs = λ e. absurd (omega arith);
+  no_start = (omega arith, λ t h. absurd (omega arith));
 }
 
 module _ {N : Net} {S S₁ : State} {t u : ℕ} (b : u < N.transitions) (off : ¬ (t ≡ u)) where
@@ -37,27 +34,21 @@ start-shrinks : {N : Net} {S S₁ : State} {t : ℕ} (u : ℕ) → Starts N S t 
 start-shrinks u m en p l = omega (arith, en p l, m.marked p l)
 
 module _ (N : Net) (S : State) (lawful : Lawful N S) (S₁ : State) where
-  pub clear_next : {e : Event} → Chooses N S e → Moves N false S e S₁ → IsClear N S₁ (clear_after e N.transitions)
+  pub clear_next : {e : Event} → Chooses N S e → Moves N false S e S₁ → IsClear N S₁ (clear_after e)
   clear_next (Chooses.end {t} (o, lower)) m = record {
     ends_known = omega (arith, o.0);
-    starts_known = omega arith;
     no_end = λ u h (b, due). lower u h (b, omega (arith, end_same {t = t} b (λ e. omega arith) m));
-    no_start = λ u h. absurd (omega arith);
-    runs = λ e. absurd (omega (arith, o.0));
+    no_start = (omega arith, λ u h. absurd (omega arith));
   }
   clear_next (Chooses.start {t} none (o, lower)) m = record {
     ends_known = omega (arith, o.0);
-    starts_known = omega (arith, o.0);
     no_end = λ u h (b, due). omega (arith, none u b, start-same {t = t} b (λ e. omega arith) m);
-    no_start = λ u h (b, en). lower u h (b, start-shrinks u m en);
-    runs = λ e. absurd (omega (arith, o.0));
+    no_start = (omega (arith, o.0), λ u h (b, en). lower u h (b, start-shrinks u m en));
   }
   clear_next (Chooses.tick none none' runs) m = record {
     ends_known = omega arith;
-    starts_known = omega arith;
     no_end = λ u h. absurd (omega arith);
-    no_start = λ u h (b, en). still-calm N S S₁ lawful m u b en;
-    runs = λ e. still-runs N S S₁ lawful m;
+    no_start = ((λ u (b, en). still-calm N S S₁ lawful m u b en), still-runs N S S₁ lawful m);
   }
 
 -- A LOOK FROM THERE ON

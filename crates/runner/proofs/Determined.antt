@@ -8,8 +8,8 @@ use Rattle.runner.proofs.stop.U8FromStop.from.Reads as stop-number
 use Rattle.runner.proofs.stop.U8FromStop.from.Kinds as stop-number-kinds
 use Rattle.runner.proofs.stop.Stop.refused.Reads as stop-refused
 use Rattle.runner.proofs.stop.Stop.refused.Kinds as stop-refused-kinds
-use Rattle.runner.proofs.clear.ClearDefault.default.Reads as clear-nothing
-use Rattle.runner.proofs.clear.ClearDefault.default.Kinds as clear-nothing-kinds
+use Rattle.runner.proofs.clear.Clear.nothing.Reads as clear-nothing
+use Rattle.runner.proofs.clear.Clear.nothing.Kinds as clear-nothing-kinds
 use Rattle.runner.proofs.clear.Clear.after.Reads as clear-after
 use Rattle.runner.proofs.clear.Clear.after.Kinds as clear-after-kinds
 use Rattle.runner.proofs.choose.next_end.Reads as next-end
@@ -40,7 +40,7 @@ pub stop-refused-determined : Determined 0 stop-refused-kinds.ps stop-refused-ki
 stop-refused-determined κs args x y s s' p q = p ∙ sym q
 
 pub clear-nothing-determined : Determined 0 clear-nothing-kinds.ps clear-nothing-kinds.r clear-nothing.Learnt
-clear-nothing-determined κs args x y s s' p q = λ i. record { ends = (p.0 ∙ sym q.0) i; starts = (p.1 ∙ sym q.1) i }
+clear-nothing-determined κs args x y s s' p q = p ∙ sym q
 
 pub clear-after-determined : Determined 0 clear-after-kinds.ps clear-after-kinds.r clear-after.Learnt
 clear-after-determined κs args x y s s' p q = p ∙ sym q
@@ -66,10 +66,10 @@ write-head-leaves κs args x y s s' p q = p ∙ sym q
 pub build-determined : Determined 3 build-kinds.ps build-kinds.r build.Learnt
 build-determined κs args x y s s' p q = p.0 ∙ sym q.0
 
-pub build-leaves : LeavesOne 3 build-kinds.ps build-kinds.r build.Learnt (λ κs s. s.1.1.0.now)
+pub build-leaves : LeavesOne 3 build-kinds.ps build-kinds.r build.Learnt (λ κs s. s.1.0.now)
 build-leaves κs args x y s s' p q = p.1.0 ∙ sym q.1.0
 
-pub build-leaves-log : LeavesOne 3 build-kinds.ps build-kinds.r build.Learnt (λ κs s. s.1.1.1.0.now)
+pub build-leaves-log : LeavesOne 3 build-kinds.ps build-kinds.r build.Learnt (λ κs s. s.1.1.0.now)
 build-leaves-log κs args x y s s' p q = p.1.1 ∙ sym q.1.1
 
 pub told-of-determined : Determined 0 told-of-kinds.ps told-of-kinds.r told_of.Learnt

@@ -5,13 +5,12 @@ use mathlib.Core.Path.{◌≡◌, refl}
 use mathlib.Core.Bool.{Bool, true, false}
 use mathlib.Core.List.{List}
 use Prim.Native.Nat.{ℕ, ◌<◌, ◌≤◌}
-use native.Mathlib.Omega.{arith}
 use lib.Dec.{leb}
 use lib.ListN.{length}
 use Rattle.model.specs.declared.net.Net.{Net as Shape}
 use Rattle.model.proofs.Tab.{below-or-past}
 use Rattle.model.proofs.Alls.{holds, lacks}
-use Rattle.model.proofs.Tests.{leb_tells, told-true, told-false}
+use Rattle.model.proofs.Tests.{leb_tells, told-true}
 use Rattle.forms.specs.declared.fault.Fault.{Fault}
 use Rattle.forms.specs.declared.fault.Fault.TheVariants as fault
 use Rattle.forms.specs.Checked.{unless}

@@ -30,20 +30,23 @@ pub data LowestFrom (A : ℕ → Type 0) (from n : ℕ) : Option ℕ → Type 0 
   found : {t : ℕ} → from ≤ t → t < n → A t → ((k : ℕ) → from ≤ k → k < t → ¬ A k) → LowestFrom A from n (Some t)
   empty : ((k : ℕ) → from ≤ k → k < n → ¬ A k) → LowestFrom A from n None
 
-abbrev pub clear_of : ℕ → ℕ → Clear
+abbrev pub clear_of : ℕ → Option ℕ → Clear
 clear_of ends starts = record { ends = ends; starts = starts }
 
--- no transition below `ends` owes an end, and none below `starts` a start; where `starts` is all of them, something is running
+-- of the starts: none is owed below a number; or none at all, and something is running
+abbrev pub NoStart : Net → State → Option ℕ → Type 0
+NoStart N S (Some from) = (from ≤ N.transitions) × ((t : ℕ) → t < from → ¬ OwesStart N S t)
+NoStart N S None = ((t : ℕ) → ¬ OwesStart N S t) × ¬ NothingRunning N S
+
+-- no transition below `ends` owes an end, and of the starts `starts` says which are not owed
 pub record IsClear (N : Net) (S : State) (c : Clear) : Type 0 where
   pub ends_known : c.ends ≤ N.transitions
-  pub starts_known : c.starts ≤ N.transitions
   pub no_end : (t : ℕ) → t < c.ends → ¬ OwesEnd N S t
-  pub no_start : (t : ℕ) → t < c.starts → ¬ OwesStart N S t
-  pub runs : c.starts ≡ N.transitions → ¬ NothingRunning N S
+  pub no_start : NoStart N S c.starts
 
 -- behind the chosen event
-abbrev pub clear_after : Event → ℕ → Clear
-clear_after event.Tick transitions = clear_of 0 transitions
-clear_after (event.Start t) transitions = clear_of t t
-clear_after (event.End t age) transitions = clear_of t 0
-clear_after event.Malformed transitions = clear_of 0 0
+abbrev pub clear_after : Event → Clear
+clear_after event.Tick = clear_of 0 None
+clear_after (event.Start t) = clear_of t (Some t)
+clear_after (event.End t age) = clear_of t (Some 0)
+clear_after event.Malformed = clear_of 0 (Some 0)

@@ -71,7 +71,7 @@ pub fn page(net: &[u8], state: &mut [u8], log: &mut [u8], budget: usize) -> Page
     ensures page_promise { PagePromise net.now state.old log.old budget result state.new log.new }
 {
     match examine_page(net, state, log) {
-        Ok(net) => build::build(net.bytes, net.shape, state, log, budget).into(),
+        Ok(net) => build::build(net, state, log, budget).into(),
         Err(fault) => fault.into(),
     }
 }

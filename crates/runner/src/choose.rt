@@ -1,55 +1,53 @@
 // The event that the rule chooses.
 ghost use Rattle.std.specs.Prelude.{◌≡◌, ◌≤◌};
-ghost use Rattle.model.specs.Owed.{Lowest, OwesStart, OwesEnd};
+ghost use Rattle.model.specs.Owed.{OwesStart, OwesEnd};
 ghost use Rattle.forms.specs.Stored.{net_of, stored};
-ghost use Rattle.forms.specs.Frame.{Framed};
+ghost use Rattle.forms.specs.States.{IsState};
 ghost use Rattle.runner.specs.Choice.{choice};
 ghost use Rattle.runner.specs.Chosen.{LowestFrom, IsClear};
 
 use crate::clear::Clear;
-use forms::net;
+use forms::checked::CheckedNet;
 use model::age::Age;
 use model::event::Event;
-use model::net::Net;
 use owed::{counts, starts};
 
 // An owed end before an owed start before a tick, the lowest transition of each, found from where nothing below it is owed. The starts are
 // looked for only where no end is owed, and the clock only where no start is; behind a tick neither is looked at.
-pub fn choose(net: &[u8], shape: Net, state: &[u8], clear: Clear) -> Option<Event>
-    requires framed { Framed net.now shape state.now }
-    requires clear { IsClear (net_of net.now) (stored net.now state.now) clear }
-    ensures { result ≡ choice (net_of net.now) (stored net.now state.now) }
+pub fn choose(net: CheckedNet, state: &[u8], clear: Clear) -> Option<Event>
+    requires state { IsState (net_of net.bytes.now) state.now }
+    requires clear { IsClear (net_of net.bytes.now) (stored net.bytes.now state.now) clear }
+    ensures { result ≡ choice (net_of net.entry.bytes.now) (stored net.entry.bytes.now state.now) }
 {
-    if let Some(t) = next_end(net, shape, state, clear.ends) {
-        let lfd = Age(net::lfd(net, t) as u8);
-        return Some(Event::End(t, lfd));
+    if let Some(t) = next_end(net, state, clear.ends) {
+        return Some(Event::End(t, Age(net.lfd(t) as u8)));
     }
-    if clear.starts == shape.transitions {
+    let Some(from) = clear.starts else {
         return Some(Event::Tick);
-    }
-    if let Some(t) = next_start(net, shape, state, clear.starts) {
+    };
+    if let Some(t) = next_start(net, state, from) {
         return Some(Event::Start(t));
     }
-    if counts::nothing_running(net, shape, state) {
+    if counts::nothing_running(net.bytes, net.shape, state) {
         return None;
     }
     Some(Event::Tick)
 }
 
 // The lowest transition from `from` on that owes an end.
-pub fn next_end(net: &[u8], shape: Net, state: &[u8], from: usize) -> Option<usize>
-    requires framed { Framed net.now shape state.now }
-    requires from_le_transitions { from ≤ shape.transitions }
-    ensures { LowestFrom (OwesEnd (net_of net.now) (stored net.now state.now)) from (net_of net.now).transitions result }
+pub fn next_end(net: CheckedNet, state: &[u8], from: usize) -> Option<usize>
+    requires state { IsState (net_of net.bytes.now) state.now }
+    requires from_le_transitions { from ≤ net.shape.transitions }
+    ensures { LowestFrom (OwesEnd (net_of net.entry.bytes.now) (stored net.entry.bytes.now state.now)) from (net_of net.entry.bytes.now).transitions result }
 {
-    (from..shape.transitions).find(|t| counts::due(net, shape, state, *t) != 0)
+    (from..net.shape.transitions).find(|t| counts::due(net.bytes, net.shape, state, *t) != 0)
 }
 
 // The lowest transition from `from` on that is enabled.
-pub fn next_start(net: &[u8], shape: Net, state: &[u8], from: usize) -> Option<usize>
-    requires framed { Framed net.now shape state.now }
-    requires from_le_transitions { from ≤ shape.transitions }
-    ensures { LowestFrom (OwesStart (net_of net.now) (stored net.now state.now)) from (net_of net.now).transitions result }
+pub fn next_start(net: CheckedNet, state: &[u8], from: usize) -> Option<usize>
+    requires state { IsState (net_of net.bytes.now) state.now }
+    requires from_le_transitions { from ≤ net.shape.transitions }
+    ensures { LowestFrom (OwesStart (net_of net.entry.bytes.now) (stored net.entry.bytes.now state.now)) from (net_of net.entry.bytes.now).transitions result }
 {
-    (from..shape.transitions).find(|t| starts::enabled(net, shape, state, *t))
+    (from..net.shape.transitions).find(|t| starts::enabled(net.bytes, net.shape, state, *t))
 }

@@ -1,30 +1,36 @@
 // What is known of a state from the event before it, so that a page looks at no transition twice without need.
 ghost use Rattle.std.specs.Prelude.{◌≡◌};
-ghost use Rattle.runner.specs.Chosen.{clear_after};
+ghost use Rattle.runner.specs.Chosen.{clear_of, clear_after};
 
 use model::event::Event;
 
-// No transition below `ends` owes an end, and none below `starts` is enabled. Where `starts` is all of them, something is running. By default
-// nothing is known.
-#[derive(Clone, Copy, Default)]
+// No transition below `ends` owes an end, and none below `starts` is enabled. Where `starts` is none, no transition is, and something is running.
+#[derive(Clone, Copy)]
 pub struct Clear {
     pub ends: usize,
-    pub starts: usize,
+    pub starts: Option<usize>,
 }
 
 impl Clear {
-    // Behind the chosen event. It was the lowest of its kind, and a start enables nothing; an end may, and a tick makes ends due.
-    pub fn after(event: Event, transitions: usize) -> Clear
-        ensures { result ≡ clear_after event transitions }
+    pub fn nothing() -> Clear
+        ensures { result ≡ clear_of 0 (Some 0) }
     {
-        match event {
-            Event::Tick => Clear {
-                ends: 0,
-                starts: transitions,
-            },
-            Event::Start(t) => Clear { ends: t, starts: t },
-            Event::End(t, _) => Clear { ends: t, starts: 0 },
-            Event::Malformed => Clear::default(),
+        Clear {
+            ends: 0,
+            starts: Some(0),
         }
+    }
+
+    // Behind the chosen event. It was the lowest of its kind, and a start enables nothing; an end may, and a tick makes ends due.
+    pub fn after(event: Event) -> Clear
+        ensures { result ≡ clear_after event }
+    {
+        let (ends, starts) = match event {
+            Event::Tick => (0, None),
+            Event::Start(t) => (t, Some(t)),
+            Event::End(t, _) => (t, Some(0)),
+            Event::Malformed => (0, Some(0)),
+        };
+        Clear { ends, starts }
     }
 }

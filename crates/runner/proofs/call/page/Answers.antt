@@ -8,7 +8,7 @@ use Rattle.runner.proofs.call.page.Goals as goal
 
 pub build-requires : goal.build-requires
 build-requires c =
-    let both = page-found _ c.in-Ok.net _ _ c.in-Ok.ensures in record { framed = both.0; event_at_in_bounds = both.1 }
+    let both = page-found _ c.in-Ok.net _ _ c.in-Ok.ensures in record { state = both.0.is_state; event_at_in_bounds = both.1 }
 
 pub returns-in-Ok : goal.returns-in-Ok
 unfolding page_told state_left log_left

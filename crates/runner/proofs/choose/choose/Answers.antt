@@ -1,32 +1,29 @@
 -- `choose::choose` meets its contract: what it finds is what the rule chooses.
-use Rattle.std.proofs.Common.{sym, ◌∙◌, arith}
-use Rattle.forms.proofs.States.{transitions-same}
+use Rattle.std.proofs.Common.{sym, arith}
+use Rattle.forms.proofs.CheckedNets.{framed}
 use Rattle.runner.proofs.Clearing.{known-from}
 use Rattle.runner.proofs.Chosen.{chosen-end, chosen-tick-known, chosen-start, chosen-rest, chosen-tick}
 use Rattle.runner.proofs.choose.choose.Goals as goal
 
 pub lfd-requires : goal.lfd-requires
-lfd-requires c =
-    let f = c.requires.framed.net_framed in
-    (f.is_net, omega (arith, known-from c.in-Some.ensures, transitions-same _ _ f, f.has_shape.transitions_are))
+lfd-requires c = omega (arith, known-from c.in-Some.ensures, c.args.net.has_shape.transitions_are)
 
 pub returns-in-Some : goal.returns-in-Some
 returns-in-Some c = sym (rw (← c.lfd.ensures.0) at (chosen-end c.requires.clear c.in-Some.ensures))
 
-pub returns-then-clear-shape : goal.returns-then-clear-shape
-returns-then-clear-shape c =
-    sym (chosen-tick-known c.requires.clear c.in_default.ensures (c.if-clear-shape.true ∙ c.requires.framed.net_framed.has_shape.transitions_are))
+pub returns-in_default-starts : goal.returns-in_default-starts
+returns-in_default-starts c = sym (chosen-tick-known c.requires.clear c.in_default.ensures c.in_default-starts.is)
 
 pub returns-in-Some-next_start : goal.returns-in-Some-next_start
-returns-in-Some-next_start c =
-    sym (chosen-start c.requires.clear c.in_default.ensures c.in-Some-next_start.ensures)
+returns-in-Some-next_start c = sym (chosen-start c.requires.clear c.in_default.ensures c.in-Some-starts.is c.in-Some-next_start.ensures)
+
+pub nothing_running-requires : goal.nothing_running-requires
+nothing_running-requires c = framed c.args.net c.requires.state
 
 pub returns-then-nothing_running : goal.returns-then-nothing_running
 returns-then-nothing_running c =
-    sym (chosen-rest c.requires.clear c.in_default.ensures c.in_default-next_start.ensures
-    (sym c.nothing_running.ensures ∙ c.if-nothing_running.true))
+    sym (chosen-rest c.requires.clear c.in_default.ensures c.in-Some-starts.is c.in_default-next_start.ensures (sym c.if-nothing_running.ensures))
 
 pub returns : goal.returns
 returns c =
-    sym (chosen-tick c.requires.clear c.in_default.ensures c.in_default-next_start.ensures
-    (sym c.nothing_running.ensures ∙ c.if-nothing_running.false))
+    sym (chosen-tick c.requires.clear c.in_default.ensures c.in-Some-starts.is c.in_default-next_start.ensures (sym c.if-nothing_running.ensures))
