@@ -1,8 +1,6 @@
 pub mod Fed
 pub mod Nexts
-pub mod Stepping
 pub mod Order
-pub mod Endings
 pub mod Remaining
 pub mod Beginning
 pub mod Ready

@@ -40,7 +40,6 @@ use Rattle.why.specs.declared.found.LastFound.{LastFound}
 use Rattle.why.specs.Words.{mark_other_word, run_other_word, mark_first_word, run_first_word, expected_word}
 use Rattle.why.specs.State.{length_field, difference_of, other_phrase}
 use Rattle.why.specs.Portions.{first_of, Fed}
-use Rattle.why.specs.Found.{nothing, expected_state, last_not_fit, last_fit, last_found, state_left, last_left, found_of, found_state}
 use Rattle.why.proofs.Fed.{is-first, first-events}
 
 -- a log that is not refused for what the call was given: net, state and log are in their forms
@@ -94,80 +93,3 @@ ready net log room x final told bytes small is kept long left late =
           ∙ sym (run-told net s final framed log l false),
       none-fed net final log fit l,
     )
-
--- THE LAST STATE
-
-pub expected-so : (s : List ℕ) (number wide field places transitions width : ℕ) (r : Phrase)
-    → r ≡ phrase (expected_word + wide) field places transitions width → wide ≡ number → field ≡ length_field s
-    → places ≡ byte s 5 → transitions ≡ byte s 6 → width ≡ byte s 7 → r ≡ expected_state s number
-unfolding expected_state
-expected-so s number wide field places transitions width r e a b c d f = e ∙ rw (a, b, c, d, f) refl
-
--- where the last state is compared and walked back from
-module _ (net log reached last : List ℕ) (check : Verdict) (is : check ≡ state_told net last) (n : ℕ) (all : n ≡ event_count log) where
-  pub compared : (d e : Difference) (o f none : Phrase) (w : WalkTold) (last' reached' : List ℕ)
-      → d ≡ difference_of last reached → o ≡ other_phrase mark_other_word run_other_word last d → w ≡ walk_told net last log n false
-      → last' ≡ walk_left net last log n false → reached' ≡ initial_left net reached
-      → e ≡ difference_of last' reached' → f ≡ other_phrase mark_first_word run_first_word last' e → none ≡ nothing
-      → (record { given = true; check = check; expected = none; same = d.same; other = o; walk = w; front = f } ≡ last_fit net log reached last)
-      × ((reached' ≡ initial_left net reached) × (last' ≡ walk_left net last log (event_count log) false))
-  compared d e o f none w last' reached' a b c walked begun g h z =
-      (rw (h, g, begun, walked, b, a, c, z, is, all) refl, (begun, walked ∙ ap (λ (k : ℕ). walk_left net last log k false) all))
-
-module _ (net log reached last : List ℕ) where
-  pub not-given : (r : LastFound) (expected : Phrase) → r ≡ last_not_fit false (record { number = 0; index = 0 }) expected → expected ≡ nothing
-      → r ≡ last_found net log reached last false
-  unfolding last_found
-  not-given r expected e f = e ∙ ap (last_not_fit false (record { number = 0; index = 0 })) f
-
-  module _ (check : Verdict) (is : check ≡ state_told net last) where
-    module _ (bad : check.number ≡ 0 → ⊥) where
-      failed : eqb (state_told net last).number 0 ≡ false
-      failed = rw (← is) (ne_eqb check.number 0 bad)
-
-      pub not-state : (r : LastFound) (expected : Phrase) → r ≡ last_not_fit true check expected → expected ≡ expected_state reached check.number
-          → r ≡ last_found net log reached last true
-      unfolding last_found
-      not-state r expected e f = rw failed (e ∙ rw (f, is) refl)
-
-      pub state-kept : reached ≡ state_left net reached last true
-      unfolding state_left
-      state-kept = rw failed refl
-
-      pub last-kept : last ≡ last_left net log last true
-      unfolding last_left
-      last-kept = rw failed refl
-
-    module _ (good : check.number ≡ 0) where
-      passed : eqb (state_told net last).number 0 ≡ true
-      passed = rw (← is) (eq-eqb check.number 0 good)
-
-      pub is_state : (r : LastFound) → r ≡ last_fit net log reached last → r ≡ last_found net log reached last true
-      unfolding last_found
-      is_state r e = rw passed e
-
-      pub state-begun : (b : List ℕ) → b ≡ initial_left net reached → b ≡ state_left net reached last true
-      unfolding state_left
-      state-begun b e = rw passed e
-
-      pub last-walked : (b : List ℕ) → b ≡ walk_left net last log (event_count log) false → b ≡ last_left net log last true
-      unfolding last_left
-      last-walked b e = rw passed e
-
--- ALL OF IT
-
-module _ (net log room : List ℕ) where
-  pub looked-told : (b : List ℕ) (told : RunTold) → b ≡ initial_left net room → told ≡ run_told net b log false → told ≡ run_told net (initial_left net room) log false
-  looked-told b told e f = f ∙ ap (λ (x : List ℕ). run_told net x log false) e
-
-  module _ (last : List ℕ) (given : Bool) (b reached : List ℕ) where
-    pub looked : (told : RunTold) (events : ℕ) (back : LastFound) → b ≡ initial_left net room → told ≡ run_told net b log false → reached ≡ run_left net b log false
-        → events ≡ event_count log → back ≡ last_found net log reached last given
-        → record { told = told; events = events; last = back } ≡ found_of net log room last given
-    unfolding found_of
-    looked told events back e f g h k = rw (k, h, g, f, e) refl
-
-    pub looked-state : (left final : List ℕ) → b ≡ initial_left net room → reached ≡ run_left net b log false → left ≡ state_left net reached last given
-        → final ≡ initial_left net left → final ≡ found_state net log room last given
-    unfolding found_state
-    looked-state left final e g h k = k ∙ rw (h, g, e) refl

@@ -7,11 +7,16 @@ use Prim.Native.Nat.{ℕ, suc, ◌+◌, ◌-◌, ◌<◌, ◌≤◌}
 use native.Mathlib.Omega.{arith}
 use lib.Dec.{eqb, ltb}
 use borrow.Author.Tests.{ltb-true, ltb-false}
+use Rattle.std.proofs.Common.{Option, Some, None}
+use Rattle.std.specs.Option.{is_none, option_map_or}
+use Rattle.engine.specs.declared.answers.Verdict.{Verdict}
 use Rattle.engine.specs.Calls.{owed_told, run_told}
 use Rattle.phrases.specs.declared.phrase.Phrase.{Phrase}
 use Rattle.runs.specs.declared.told.RunTold.{RunTold}
-use Rattle.why.specs.declared.found.Found.{Found}
-use Rattle.why.specs.declared.found.Wish.{Wish}
+use Rattle.why.specs.declared.found.LastFit.{LastFit}
+use Rattle.why.specs.declared.found.LastFound.{LastFound}
+use Rattle.why.specs.declared.found.LastFound.TheVariants as back
+use Rattle.why.specs.declared.telling.Telling.{Telling}
 use Rattle.why.specs.declared.cursor.StepPart.{StepPart}
 use Rattle.why.specs.declared.cursor.StepPart.TheVariants as step
 use Rattle.why.specs.declared.cursor.VerdictPart.{VerdictPart}
@@ -29,10 +34,10 @@ use Rattle.why.specs.Each.{each_from}
 use Rattle.why.specs.State.{word_count, is_held, held_phrase, owed_most, does_owe, owed_phrase}
 use Rattle.why.specs.Portions.{behind, Fed}
 use Rattle.why.specs.Report.{Given, plain, event_phrase, last_step, done_event, is_shown, stands_phrase, reached, state_on, steps_on}
-use Rattle.why.specs.Report.{verdict_on, walk_on, last_on, behind_on, remaining_at, remaining}
-use Rattle.why.specs.Said.{go_to, behind_step, open_said, events_said, next_held, state_said, next_owed, owed_said}
-use Rattle.why.specs.Said.{outcome_said, why_said, verdict_said, end_said, walk_said, fit_said, opening_said, last_said, fault_said}
-use Rattle.why.specs.Said.{GoesOn, Going, ReachedAt, Reached, StepsFrom, StepsTo, over_at, is_over, given, Tells}
+use Rattle.why.specs.Report.{verdict_on, end_on, walk_on, not_fit_on, fit_opening_on, fit_on, last_found_on, last_on, behind_on, remaining_at, remaining}
+use Rattle.why.specs.Said.{go_to, behind_step, open_said, events_said, next_held, state_said, next_owed, owed_said, outcome_said, why_said, verdict_said}
+use Rattle.why.specs.Said.{end_said, walk_said, not_fit_said, fit_opening_said, fit_said, last_found_said, last_said, fault_said}
+use Rattle.why.specs.Said.{Going, ReachedAt, Reached, StepsFrom, StepsTo, about, Tells}
 use Rattle.why.proofs.Nexts.{each_turn, each_over, each_all, each_none}
 use Rattle.why.proofs.Order.{done-most, done-later, done-last}
 
@@ -40,6 +45,11 @@ use Rattle.why.proofs.Order.{done-most, done-later, done-last}
 pub by-test : {A : Type 0} (b : Bool) → (b ≡ true → A) → (b ≡ false → A) → A
 by-test true yes-so no-so = yes-so refl
 by-test false yes-so no-so = no-so refl
+
+-- something is found, or nothing
+by-found : {A : Type 0} {X : Type 0} (o : Option X) → (o ≡ None → A) → ((x : X) → o ≡ Some x → A) → A
+by-found None none some = none refl
+by-found (Some x) none some = some x refl
 
 module _ (g : Given) (state : List ℕ) (c : Cursor) (going : Going g state c) where
   abbrev k : ℕ
@@ -115,7 +125,7 @@ module _ (g : Given) (state : List ℕ) (c : Cursor) (going : Going g state c) w
         (λ e.
         let over : done_event g.log g.found c.step ≤ c.item = rw all at (ltb-false c.item c.fed e) in
         let said-is : remaining g c ≡ stands_phrase g.net state ∷ cond (is_shown g.wish g.found c.step) (state_on g c.step 0 rest) rest =
-        here ∙ each_none (λ _. true) (event_phrase g.log) to c.item _ over
+        here ∙ each_none (λ _. true) (event_phrase g.log) to _ c.item over
         ∙ ap (λ (s : List ℕ). stands_phrase g.net s ∷ cond (is_shown g.wish g.found c.step) (state_on g c.step 0 rest) rest) (sym (state_is all)) in
         let picked : Bool → List Phrase = λ b. stands_phrase g.net state ∷ cond b (state_on g c.step 0 rest) rest in
         by-test (is_shown g.wish g.found c.step)
@@ -126,22 +136,21 @@ module _ (g : Given) (state : List ℕ) (c : Cursor) (going : Going g state c) w
     unfolding state_said
     state-tells at =
         let top = word_count state in
-        let j = next_held state c.item in
         let shows : (i : ℕ) → remaining_at g c.part c.step i ≡ each_from (is_held state) (held_phrase state) (word_count state - i) i (plain others_word ∷ rest) =
         λ i. ap (λ (p : Part). remaining_at g p c.step i) at
         ∙ ap (λ (s : List ℕ). each_from (is_held s) (held_phrase s) (word_count s - i) i (plain others_word ∷ rest)) (sym (state_is all)) in
-        by-test (ltb (next_held state c.item) (word_count state))
+        by-found (next_held state c.item)
         (λ e.
         rw e (record {
-          one_more = shows c.item ∙ each_turn (is_held state) (held_phrase state) top c.item _ (ltb-true j top e)
-              ∙ ap (λ (l : List Phrase). held_phrase state j ∷ l) (sym (shows (j + 1)));
-          reached = rw at (stays _ refl refl, (within, all));
-        }))
-        (λ e.
-        rw e (record {
-          one_more = shows c.item ∙ each_over (is_held state) (held_phrase state) top c.item _ (ltb-false j top e)
+          one_more = shows c.item ∙ each_over (is_held state) (held_phrase state) top _ c.item e
               ∙ ap (λ (l : List Phrase). plain others_word ∷ l) (sym behind-rest);
           reached = behind-reached;
+        }))
+        (λ j e.
+        rw e (record {
+          one_more = shows c.item ∙ each_turn (is_held state) (held_phrase state) top _ c.item j e
+              ∙ ap (λ (l : List Phrase). held_phrase state j ∷ l) (sym (shows (j + 1)));
+          reached = rw at (stays _ refl refl, (within, all));
         }))
 
   -- A STEP THAT IS OPENED
@@ -175,7 +184,6 @@ module _ (g : Given) (state : List ℕ) (c : Cursor) (going : Going g state c) w
     unfolding owed_said
     owed-tells at =
         let owes = does_owe (owed_told g.net state).starts.word (owed_told g.net state).ends.word in
-        let j = next_owed g.net state c.item in
         let behind-it = plain owed_end_word ∷ cond (eqb g.found.told.number 0) (last_on g last.Opening) (behind_on g) in
         let shows : (i : ℕ) → remaining_at g c.part c.step i
         ≡ each_from (does_owe (owed_told g.net state).starts.word (owed_told g.net state).ends.word) owed_phrase (owed_most - i) i
@@ -184,18 +192,18 @@ module _ (g : Given) (state : List ℕ) (c : Cursor) (going : Going g state c) w
         ∙ ap (λ (s : List ℕ). each_from (does_owe (owed_told g.net s).starts.word (owed_told g.net s).ends.word) owed_phrase (owed_most - i) i
         (plain owed_end_word ∷ cond (eqb g.found.told.number 0) (last_on g last.Opening) (behind_on g))) (sym end_is) in
         let picked : Bool → List Phrase = λ b. plain owed_end_word ∷ cond b (last_on g last.Opening) (behind_on g) in
-        by-test (ltb (next_owed g.net state c.item) owed_most)
+        by-found (next_owed g.net state c.item)
         (λ e.
-        rw e (record {
-          one_more = shows c.item ∙ each_turn owes owed_phrase owed_most c.item behind-it (ltb-true j owed_most e)
-              ∙ ap (λ (l : List Phrase). owed_phrase j ∷ l) (sym (shows (j + 1)));
-          reached = rw at (on _ refl refl, all);
-        }))
-        (λ e.
-        let over = shows c.item ∙ each_over owes owed_phrase owed_most c.item behind-it (ltb-false j owed_most e) in
+        let over = shows c.item ∙ each_over owes owed_phrase owed_most behind-it c.item e in
         by-test (eqb g.found.told.number 0)
         (λ a. rw (e, a) (record { one_more = over ∙ ap picked a; reached = refl }))
         (λ a. rw (e, a) (record { one_more = over ∙ ap picked a; reached = (on _ refl refl, all) })))
+        (λ j e.
+        rw e (record {
+          one_more = shows c.item ∙ each_turn owes owed_phrase owed_most behind-it c.item j e
+              ∙ ap (λ (l : List Phrase). owed_phrase j ∷ l) (sym (shows (j + 1)));
+          reached = rw at (on _ refl refl, all);
+        }))
 
     verdict-tells : (p : VerdictPart) → c.part ≡ part.Verdict p → Tells g c (verdict_said g.net g.log state g.found c p) state
     unfolding outcome_said why_said
@@ -233,34 +241,58 @@ module _ (g : Given) (state : List ℕ) (c : Cursor) where
   either true yes-so no-so = yes-so
   either false yes-so no-so = no-so
 
-  walk_begins : Begins (walk_on g) (walk_said g.found c)
-  unfolding walk_said
-  walk_begins = either (eqb g.found.last.walk.number 0) (begins _ refl) (begins _ refl)
+  either-found : {X : Type 0} (o : Option X) {m : X → List Phrase} {l : List Phrase} {s : X → Said} {r : Said}
+      → ((x : X) → Begins (m x) (s x)) → Begins l r → Begins (option_map_or m o l) (option_map_or s o r)
+  either-found None some none = none
+  either-found (Some x) some none = some x
 
-  opening-begins : Begins (last_on g last.Opening) (opening_said g.found c)
-  unfolding opening_said fit_said
-  opening-begins =
-      either g.found.last.given
-      (either (eqb g.found.last.check.number 0)
-      (either (eqb g.found.told.number 0)
-      (either g.found.last.same (begins _ refl) (begins _ refl))
-      (either g.found.last.same (begins _ refl) walk_begins))
-      (begins _ refl))
-      (begins (end_said g.found c) refl)
+  end_begins : Begins (end_on g.found) (end_said g.found c)
+  end_begins = begins (end_said g.found c) refl
 
-  tells : (p : Part) → c.part ≡ p → {r : Said} → Begins (remaining_at g p c.step c.item) r → Tells g c r state
-  tells p at b = record { one_more = at_part p at ∙ b.one_more; reached = b.reached }
+  module _ (check : Verdict) (expected : Phrase) (is : g.found.last ≡ back.NotFit check expected) where
+    not-fit-begins : (p : LastPart) → Begins (not_fit_on g check expected p) (not_fit_said g.found check expected c p)
+    not-fit-begins last.Opening = record { one_more = rw is refl; reached = refl }
+    not-fit-begins last.Check = record { one_more = rw is refl; reached = refl }
+    not-fit-begins last.Expected = record { one_more = refl; reached = refl }
+    not-fit-begins last.Other = end_begins
+    not-fit-begins last.Walk = end_begins
+    not-fit-begins last.Event = end_begins
+    not-fit-begins last.Why = end_begins
+    not-fit-begins last.NoWay = end_begins
+    not-fit-begins last.Front = end_begins
+
+  module _ (fit : LastFit) (is : g.found.last ≡ back.Fit fit) where
+    walk_begins : Begins (walk_on g fit) (walk_said fit.walk c)
+    unfolding walk_said
+    walk_begins = either (eqb fit.walk.number 0) (record { one_more = rw is refl; reached = refl }) (record { one_more = rw is refl; reached = refl })
+
+    opening-begins : Begins (fit_opening_on g fit) (fit_opening_said g.found fit c)
+    unfolding fit_opening_said
+    opening-begins =
+        either (eqb g.found.told.number 0)
+        (either (is_none fit.other) (begins _ refl) (record { one_more = rw is refl; reached = refl }))
+        (either (is_none fit.other) (record { one_more = rw is refl; reached = refl }) walk_begins)
+
+    fit-begins : (p : LastPart) → Begins (fit_on g fit p) (fit_said g.log g.found fit c p)
+    fit-begins last.Opening = opening-begins
+    fit-begins last.Check = end_begins
+    fit-begins last.Expected = end_begins
+    fit-begins last.Other = either-found fit.other (λ other. record { one_more = rw is refl; reached = refl }) walk_begins
+    fit-begins last.Walk = walk_begins
+    fit-begins last.Event = record { one_more = rw is refl; reached = refl }
+    fit-begins last.Why = record { one_more = rw is refl; reached = refl }
+    fit-begins last.NoWay = record { one_more = refl; reached = refl }
+    fit-begins last.Front = either-found fit.front (λ front. record { one_more = refl; reached = refl }) end_begins
+
+  last-begins : (l : LastFound) → g.found.last ≡ l → (p : LastPart) → Begins (last_found_on g l p) (last_found_said g.log g.found l c p)
+  last-begins back.NotGiven is p = end_begins
+  last-begins (back.NotFit check expected) is p = not-fit-begins check expected is p
+  last-begins (back.Fit fit) is p = fit-begins fit is p
 
   pub last-tells : (p : LastPart) → c.part ≡ part.Last p → Tells g c (last_said g.log g.found c p) state
-  last-tells last.Opening at = tells (part.Last last.Opening) at opening-begins
-  last-tells last.Check at = record { one_more = at_part (part.Last last.Check) at; reached = refl }
-  last-tells last.Expected at = record { one_more = at_part (part.Last last.Expected) at; reached = refl }
-  last-tells last.Other at = record { one_more = at_part (part.Last last.Other) at; reached = refl }
-  last-tells last.Walk at = tells (part.Last last.Walk) at walk_begins
-  last-tells last.Event at = record { one_more = at_part (part.Last last.Event) at; reached = refl }
-  last-tells last.Why at = record { one_more = at_part (part.Last last.Why) at; reached = refl }
-  last-tells last.NoWay at = record { one_more = at_part (part.Last last.NoWay) at; reached = refl }
-  last-tells last.Front at = record { one_more = at_part (part.Last last.Front) at; reached = refl }
+  last-tells p at =
+      let b = last-begins g.found.last refl p in
+      record { one_more = at_part (part.Last p) at ∙ b.one_more; reached = b.reached }
 
   pub fault-tells : (p : FaultPart) → c.part ≡ part.Fault p → Tells g c (fault_said g.net g.log g.found c p) state
   fault-tells fault.Opening at = record { one_more = at_part (part.Fault fault.Opening) at; reached = refl }
@@ -269,12 +301,12 @@ module _ (g : Given) (state : List ℕ) (c : Cursor) where
 
 -- A CALL
 
-module _ (net log first : List ℕ) (found : Found) (wish : Wish) (c : Cursor) (state : List ℕ) where
+module _ (t : Telling) (first : List ℕ) (c : Cursor) (state : List ℕ) where
   abbrev it : Given
-  it = given net log first found wish
+  it = about t first
 
   -- a step can go on from where the telling stands
-  pub steps-from : (p : StepPart) → c.part ≡ part.Step p → Reached (given net log first found wish) state c → StepsFrom net log state found c p
+  pub steps-from : (p : StepPart) → c.part ≡ part.Step p → Reached (about t first) state c → StepsFrom t state c p
   steps-from step.Earlier at r = refl
   steps-from step.Open at r =
       let (going, (within, before)) = subst (ReachedAt it state c) at r in
@@ -282,8 +314,8 @@ module _ (net log first : List ℕ) (found : Found) (wish : Wish) (c : Cursor) (
   steps-from step.Events at r = refl
   steps-from step.State at r = refl
 
-  pub steps-tell : (p : StepPart) → c.part ≡ part.Step p → Reached (given net log first found wish) state c → (r : Said) (state' portion portion' : List ℕ)
-      → StepsTo net log state portion found wish c p r state' portion' → Tells (given net log first found wish) c r state'
+  pub steps-tell : (p : StepPart) → c.part ≡ part.Step p → Reached (about t first) state c → (r : Said) (state' portion portion' : List ℕ)
+      → StepsTo t state portion c p r state' portion' → Tells (about t first) c r state'
   steps-tell step.Earlier at reached r state' portion portion' (e, (same, _)) =
       let (going, (within, before)) = subst (ReachedAt it state c) at reached in
       rw (e, same) (record {
@@ -300,20 +332,8 @@ module _ (net log first : List ℕ) (found : Found) (wish : Wish) (c : Cursor) (
       let (going, (within, all)) = subst (ReachedAt it state c) at reached in
       rw (e, same) (state-tells it state c going within all at)
 
-  pub verdict-on : (p : VerdictPart) → c.part ≡ part.Verdict p → Reached (given net log first found wish) state c
-      → Tells (given net log first found wish) c (verdict_said net log state found c p) state
+  pub verdict-on : (p : VerdictPart) → c.part ≡ part.Verdict p → Reached (about t first) state c
+      → Tells (about t first) c (verdict_said t.net.now t.log.now state t.found c p) state
   verdict-on p at reached =
       let (going, all) = subst (ReachedAt it state c) at reached in
       verdict-tells it state c going all p at
-
--- what is not over is not over
-pub not-over : (c : Cursor) → is_over c ≡ false → c.part ≡ part.Over → ⊥
-not-over c e at =
-    let z : ◌≡◌ {A = ℕ} 1 0 = ap (λ (b : Bool). cond b 1 0) (sym (ap over_at at) ∙ e) in
-    absurd (omega arith)
-
--- a call goes on by the part that the cursor has
-pub goes_so : (net log state portion : List ℕ) (found : Found) (wish : Wish) (c : Cursor) (p : Part) → c.part ≡ p → (r : Said) (state' portion' : List ℕ)
-    → GoesOn net log state portion found wish c p r state' portion' → GoesOn net log state portion found wish c c.part r state' portion'
-goes_so net log state portion found wish c p at r state' portion' =
-    subst (λ (q : Part). GoesOn net log state portion found wish c q r state' portion') (sym at)

@@ -1,14 +1,20 @@
 -- What menuwhy tells, phrase by phrase: the steps, how the log ended, how the last state stands to it. `xOn` is all that is told from x on.
 -- Assumes nothing.
-use Rattle.std.specs.Prelude.{Bool, true, ◌&&◌, ◌||◌, not, cond, List, [], ◌∷◌, ℕ, zero, suc, ◌+◌, ◌-◌, ◌/◌, min, eqb, ltb, length}
+use Rattle.std.specs.Prelude.{Bool, true, false, ◌&&◌, ◌||◌, cond, List, [], ◌∷◌, ℕ, zero, suc, ◌+◌, ◌-◌, ◌/◌, min, eqb, ltb, length}
+use Rattle.std.specs.Option.{is_none, option_map_or}
 use Rattle.model.specs.declared.event.Event.{Event}
 use Rattle.model.specs.declared.event.Event.TheVariants as event
 use Rattle.model.specs.Event.{event_of}
 use Rattle.forms.specs.Word.{byte}
 use Rattle.forms.specs.Places.{event_at, row_at, net_length}
+use Rattle.runs.specs.declared.told.WalkTold.{WalkTold}
+use Rattle.engine.specs.declared.answers.Verdict.{Verdict}
 use Rattle.engine.specs.Calls.{step_told, owed_told}
 use Rattle.phrases.specs.declared.phrase.Phrase.{Phrase}
 use Rattle.phrases.specs.Phrase.{phrase}
+use Rattle.why.specs.declared.found.LastFit.{LastFit}
+use Rattle.why.specs.declared.found.LastFound.{LastFound}
+use Rattle.why.specs.declared.found.LastFound.TheVariants as back
 use Rattle.why.specs.declared.found.Found.{Found}
 use Rattle.why.specs.declared.found.Wish.{Wish}
 use Rattle.why.specs.declared.cursor.StepPart.{StepPart}
@@ -104,10 +110,14 @@ module _ (g : Given) where
 
 -- THE LAST LINE: the log was accepted, and the last state, where there is one, is the one that it leads to
 
+-- the last state, where there is one, is the one that the log leads to
+abbrev pub is_led_to : LastFound → Bool
+is_led_to back.NotGiven = true
+is_led_to (back.NotFit check expected) = false
+is_led_to (back.Fit fit) = is_none fit.other
+
 abbrev pub is_good : Found → Bool
-is_good found =
-    eqb found.told.number 0
-    && (not found.last.given || (eqb found.last.check.number 0 && found.last.same))
+is_good found = eqb found.told.number 0 && is_led_to found.last
 
 abbrev pub end_on : Found → List Phrase
 end_on found = plain (cond (is_good found) accepted_end_word refused_end_word) ∷ []
@@ -139,8 +149,8 @@ abbrev pub meaning : ℕ → ℕ → Phrase
 meaning number t = phrase (why_word + number) t 0 0 0
 
 -- no lawful state leads to the last state by this event and those behind it; for 28, not with the start that stands before it in its step
-abbrev pub no_way_phrase : Found → Phrase
-no_way_phrase found = phrase (cond (eqb found.last.walk.number 28) no_way_started_word no_way_word) found.last.walk.index 0 0 0
+abbrev pub no_way_phrase : WalkTold → Phrase
+no_way_phrase walk = phrase (cond (eqb walk.number 28) no_way_started_word no_way_word) walk.index 0 0 0
 
 module _ (g : Given) where
   abbrev pub fault_on : FaultPart → List Phrase
@@ -152,54 +162,61 @@ module _ (g : Given) where
 
   -- THE LAST STATE
 
-  -- where the whole walk back ended, beside the initial state
-  abbrev pub front_on : List Phrase
-  front_on = g.found.last.front ∷ end_on g.found
+  -- of one that is no state of the net
+  abbrev pub not_fit_on : Verdict → Phrase → LastPart → List Phrase
+  not_fit_on check expected last.Opening = plain last_refused_word ∷ meaning check.number check.index ∷ expected ∷ end_on g.found
+  not_fit_on check expected last.Check = meaning check.number check.index ∷ expected ∷ end_on g.found
+  not_fit_on check expected last.Expected = expected ∷ end_on g.found
+  not_fit_on check expected _ = end_on g.found
 
-  abbrev pub no_way_on : List Phrase
-  no_way_on = no_way_phrase g.found ∷ end_on g.found
+  -- of one that is: where the whole walk back ended, beside the initial state
+  abbrev pub front_on : LastFit → List Phrase
+  front_on fit = option_map_or (λ front. front ∷ end_on g.found) fit.front (end_on g.found)
 
-  abbrev pub walk_why_on : List Phrase
-  walk_why_on = plain (back_why_word + g.found.last.walk.number) ∷ no_way_on
+  abbrev pub no_way_on : LastFit → List Phrase
+  no_way_on fit = no_way_phrase fit.walk ∷ end_on g.found
 
-  abbrev pub walk_event_on : List Phrase
-  walk_event_on = event_phrase g.log g.found.last.walk.index ∷ walk_why_on
+  abbrev pub walk_why_on : LastFit → List Phrase
+  walk_why_on fit = plain (back_why_word + fit.walk.number) ∷ no_way_on fit
+
+  abbrev pub walk_event_on : LastFit → List Phrase
+  walk_event_on fit = event_phrase g.log fit.walk.index ∷ walk_why_on fit
 
   -- the walk back reaches the log's front, or stops
-  abbrev pub walk_on : List Phrase
-  walk_on =
-      cond (eqb g.found.last.walk.number 0)
-      (plain walk_ends_word ∷ front_on)
-      (phrase walk_stops_word g.found.last.walk.index 0 0 0 ∷ walk_event_on)
+  abbrev pub walk_on : LastFit → List Phrase
+  walk_on fit =
+      cond (eqb fit.walk.number 0)
+      (plain walk_ends_word ∷ front_on fit)
+      (phrase walk_stops_word fit.walk.index 0 0 0 ∷ walk_event_on fit)
 
-  abbrev pub other_on : List Phrase
-  other_on = g.found.last.other ∷ walk_on
+  abbrev pub other_on : LastFit → List Phrase
+  other_on fit = option_map_or (λ other. other ∷ walk_on fit) fit.other (walk_on fit)
 
-  abbrev pub last_expected_on : List Phrase
-  last_expected_on = g.found.last.expected ∷ end_on g.found
+  -- the log leads to it, or to another; or the log was refused, just behind it or elsewhere
+  abbrev pub fit_opening_on : LastFit → List Phrase
+  fit_opening_on fit =
+      cond (eqb g.found.told.number 0)
+      (cond (is_none fit.other) (plain last_same_word ∷ end_on g.found) (plain last_other_word ∷ other_on fit))
+      (cond (is_none fit.other) (plain last_before_word ∷ walk_on fit) (walk_on fit))
 
-  abbrev pub last_check_on : List Phrase
-  last_check_on = meaning g.found.last.check.number g.found.last.check.index ∷ last_expected_on
+  abbrev pub fit_on : LastFit → LastPart → List Phrase
+  fit_on fit last.Opening = fit_opening_on fit
+  fit_on fit last.Other = other_on fit
+  fit_on fit last.Walk = walk_on fit
+  fit_on fit last.Event = walk_event_on fit
+  fit_on fit last.Why = walk_why_on fit
+  fit_on fit last.NoWay = no_way_on fit
+  fit_on fit last.Front = front_on fit
+  fit_on fit _ = end_on g.found
 
-  -- it is no state of the net; or the log leads to it, or to another; or the log was refused, just behind it or elsewhere
-  abbrev pub last_given_on : List Phrase
-  last_given_on =
-      cond (eqb g.found.last.check.number 0)
-      (cond (eqb g.found.told.number 0)
-      (cond g.found.last.same (plain last_same_word ∷ end_on g.found) (plain last_other_word ∷ other_on))
-      (cond g.found.last.same (plain last_before_word ∷ walk_on) walk_on))
-      (plain last_refused_word ∷ last_check_on)
+  -- by what was found of it (each of the two has parts of its own; at a part of the other the last line alone is left)
+  abbrev pub last_found_on : LastFound → LastPart → List Phrase
+  last_found_on back.NotGiven p = end_on g.found
+  last_found_on (back.NotFit check expected) p = not_fit_on check expected p
+  last_found_on (back.Fit fit) p = fit_on fit p
 
   abbrev pub last_on : LastPart → List Phrase
-  last_on last.Opening = cond g.found.last.given last_given_on (end_on g.found)
-  last_on last.Check = last_check_on
-  last_on last.Expected = last_expected_on
-  last_on last.Other = other_on
-  last_on last.Walk = walk_on
-  last_on last.Event = walk_event_on
-  last_on last.Why = walk_why_on
-  last_on last.NoWay = no_way_on
-  last_on last.Front = front_on
+  last_on p = last_found_on g.found.last p
 
   -- HOW THE LOG ENDED
 

@@ -1,11 +1,18 @@
 -- What one call tells and where it goes on, by the bytes that it is lent (`xSaid`); and the statement of the crate: whatever is still to be told
 -- begins with that phrase (`Tells`), from wherever the telling stands (`Reached`).
 -- Assumes nothing.
-use Rattle.std.specs.Prelude.{◌≡◌, Bool, true, false, cond, List, ◌∷◌, ℕ, ◌+◌, ◌-◌, ◌≤◌, eqb, ltb}
+use Rattle.std.specs.Prelude.{◌≡◌, Bool, true, false, cond, List, ◌∷◌, ℕ, ◌+◌, ◌-◌, ◌≤◌, eqb, ltb, Option}
+use Rattle.std.specs.Option.{is_none, option_map_or}
+use Rattle.std.specs.Borrow.{Bor}
+use Rattle.runs.specs.declared.told.WalkTold.{WalkTold}
+use Rattle.engine.specs.declared.answers.Verdict.{Verdict}
 use Rattle.engine.specs.Calls.{owed_told, run_told}
 use Rattle.phrases.specs.declared.phrase.Phrase.{Phrase}
 use Rattle.phrases.specs.Phrase.{phrase}
 use Rattle.replay.specs.Replayed.{is_early}
+use Rattle.why.specs.declared.found.LastFit.{LastFit}
+use Rattle.why.specs.declared.found.LastFound.{LastFound}
+use Rattle.why.specs.declared.found.LastFound.TheVariants as back
 use Rattle.why.specs.declared.found.Found.{Found}
 use Rattle.why.specs.declared.found.Wish.{Wish}
 use Rattle.why.specs.declared.cursor.StepPart.{StepPart}
@@ -20,6 +27,7 @@ use Rattle.why.specs.declared.cursor.Part.{Part}
 use Rattle.why.specs.declared.cursor.Part.TheVariants as part
 use Rattle.why.specs.declared.cursor.Cursor.{Cursor}
 use Rattle.why.specs.declared.cursor.Said.{Said}
+use Rattle.why.specs.declared.telling.Telling.{Telling}
 use Rattle.why.specs.declared.telling.Begun.{Begun}
 use Rattle.why.specs.Words.{earlier_word, others_word, accepted_word, refused_word, lacks_word, behind_word, owed_end_word, last_same_word, last_other_word}
 use Rattle.why.specs.Words.{walk_stops_word, walk_ends_word, last_before_word}
@@ -67,24 +75,22 @@ events_said net log state found wish c =
     (said (stands_phrase net state) (go_to c (part.Step step.State)))
     (said (stands_phrase net state) (behind_step found c)))
 
-abbrev pub next_held : List ℕ → ℕ → ℕ
+abbrev pub next_held : List ℕ → ℕ → Option ℕ
 next_held state from = next_from (is_held state) (word_count state - from) from
 
 unfoldable pub state_said : List ℕ → Found → Cursor → Said
 state_said state found c =
-    cond (ltb (next_held state c.item) (word_count state))
-    (said (held_phrase state (next_held state c.item)) (at_item c (next_held state c.item + 1)))
+    option_map_or (λ i. said (held_phrase state i) (at_item c (i + 1))) (next_held state c.item)
     (said (plain others_word) (behind_step found c))
 
 -- HOW THE LOG ENDED
 
-abbrev pub next_owed : List ℕ → List ℕ → ℕ → ℕ
+abbrev pub next_owed : List ℕ → List ℕ → ℕ → Option ℕ
 next_owed net state from = next_from (does_owe (owed_told net state).starts.word (owed_told net state).ends.word) (owed_most - from) from
 
 unfoldable pub owed_said : List ℕ → List ℕ → Found → Cursor → Said
 owed_said net state found c =
-    cond (ltb (next_owed net state c.item) owed_most)
-    (said (owed_phrase (next_owed net state c.item)) (at_item c (next_owed net state c.item + 1)))
+    option_map_or (λ i. said (owed_phrase i) (at_item c (i + 1))) (next_owed net state c.item)
     (cond (eqb found.told.number 0)
     (said (plain owed_end_word) (go_to c (part.Last last.Opening)))
     (said (plain owed_end_word) (go_to c (part.Verdict verdict.Behind))))
@@ -124,35 +130,43 @@ end_said found c = said (plain (cond (is_good found) accepted_end_word refused_e
 
 -- THE LAST STATE
 
-unfoldable pub walk_said : Found → Cursor → Said
-walk_said found c =
-    cond (eqb found.last.walk.number 0)
+unfoldable pub walk_said : WalkTold → Cursor → Said
+walk_said walk c =
+    cond (eqb walk.number 0)
     (said (plain walk_ends_word) (go_to c (part.Last last.Front)))
-    (said (phrase walk_stops_word found.last.walk.index 0 0 0) (go_to c (part.Last last.Event)))
+    (said (phrase walk_stops_word walk.index 0 0 0) (go_to c (part.Last last.Event)))
+
+-- no state of the net
+abbrev pub not_fit_said : Found → Verdict → Phrase → Cursor → LastPart → Said
+not_fit_said found check expected c last.Opening = said (plain last_refused_word) (go_to c (part.Last last.Check))
+not_fit_said found check expected c last.Check = said (meaning check.number check.index) (go_to c (part.Last last.Expected))
+not_fit_said found check expected c last.Expected = said expected (go_to c part.End)
+not_fit_said found check expected c _ = end_said found c
 
 -- a state of the net: the log leads to it, or to another, or was refused
-unfoldable pub fit_said : Found → Cursor → Said
-fit_said found c =
+unfoldable pub fit_opening_said : Found → LastFit → Cursor → Said
+fit_opening_said found fit c =
     cond (eqb found.told.number 0)
-    (cond found.last.same (said (plain last_same_word) (go_to c part.End)) (said (plain last_other_word) (go_to c (part.Last last.Other))))
-    (cond found.last.same (said (plain last_before_word) (go_to c (part.Last last.Walk))) (walk_said found c))
+    (cond (is_none fit.other) (said (plain last_same_word) (go_to c part.End)) (said (plain last_other_word) (go_to c (part.Last last.Other))))
+    (cond (is_none fit.other) (said (plain last_before_word) (go_to c (part.Last last.Walk))) (walk_said fit.walk c))
 
-unfoldable pub opening_said : Found → Cursor → Said
-opening_said found c =
-    cond found.last.given
-    (cond (eqb found.last.check.number 0) (fit_said found c) (said (plain last_refused_word) (go_to c (part.Last last.Check))))
-    (end_said found c)
+abbrev pub fit_said : List ℕ → Found → LastFit → Cursor → LastPart → Said
+fit_said log found fit c last.Opening = fit_opening_said found fit c
+fit_said log found fit c last.Other = option_map_or (λ other. said other (go_to c (part.Last last.Walk))) fit.other (walk_said fit.walk c)
+fit_said log found fit c last.Walk = walk_said fit.walk c
+fit_said log found fit c last.Event = said (event_phrase log fit.walk.index) (go_to c (part.Last last.Why))
+fit_said log found fit c last.Why = said (plain (back_why_word + fit.walk.number)) (go_to c (part.Last last.NoWay))
+fit_said log found fit c last.NoWay = said (no_way_phrase fit.walk) (go_to c part.End)
+fit_said log found fit c last.Front = option_map_or (λ front. said front (go_to c part.End)) fit.front (end_said found c)
+fit_said log found fit c _ = end_said found c
+
+abbrev pub last_found_said : List ℕ → Found → LastFound → Cursor → LastPart → Said
+last_found_said log found back.NotGiven c p = end_said found c
+last_found_said log found (back.NotFit check expected) c p = not_fit_said found check expected c p
+last_found_said log found (back.Fit fit) c p = fit_said log found fit c p
 
 abbrev pub last_said : List ℕ → Found → Cursor → LastPart → Said
-last_said log found c last.Opening = opening_said found c
-last_said log found c last.Check = said (meaning found.last.check.number found.last.check.index) (go_to c (part.Last last.Expected))
-last_said log found c last.Expected = said found.last.expected (go_to c part.End)
-last_said log found c last.Other = said found.last.other (go_to c (part.Last last.Walk))
-last_said log found c last.Walk = walk_said found c
-last_said log found c last.Event = said (event_phrase log found.last.walk.index) (go_to c (part.Last last.Why))
-last_said log found c last.Why = said (plain (back_why_word + found.last.walk.number)) (go_to c (part.Last last.NoWay))
-last_said log found c last.NoWay = said (no_way_phrase found) (go_to c part.End)
-last_said log found c last.Front = said found.last.front (go_to c part.End)
+last_said log found c p = last_found_said log found found.last c p
 
 -- A NET OR A LOG THAT IS REFUSED
 
@@ -181,8 +195,11 @@ beginning found wish = record {
   started = false;
 }
 
-abbrev pub begun : Found → Wish → Begun
-begun found wish = record { found = found; cursor = beginning found wish }
+abbrev pub telling : Bor (List ℕ) → Bor (List ℕ) → Found → Wish → Telling
+telling net log found wish = record { net = net; log = log; found = found; wish = wish }
+
+abbrev pub begun : Telling → Begun
+begun t = record { telling = t; cursor = beginning t.found t.wish }
 
 -- WHERE THE TELLING STANDS
 
@@ -227,38 +244,39 @@ abbrev pub is_over : Cursor → Bool
 is_over c = over_at c.part
 
 -- what a step needs, and what it comes to: only its opening feeds
-abbrev pub StepsFrom : List ℕ → List ℕ → List ℕ → Found → Cursor → StepPart → Type 0
-StepsFrom net log state found c step.Earlier = NothingAsked
-StepsFrom net log state found c step.Open = FeedsTo net log state c.fed (done_event log found c.step) c.started
-StepsFrom net log state found c step.Events = NothingAsked
-StepsFrom net log state found c step.State = NothingAsked
+abbrev pub StepsFrom : Telling → List ℕ → Cursor → StepPart → Type 0
+StepsFrom t state c step.Earlier = NothingAsked
+StepsFrom t state c step.Open = FeedsTo t.net.now t.log.now state c.fed (done_event t.log.now t.found c.step) c.started
+StepsFrom t state c step.Events = NothingAsked
+StepsFrom t state c step.State = NothingAsked
 
 -- neither the state nor the portion is written
 abbrev pub Kept : List ℕ → List ℕ → List ℕ → List ℕ → Type 0
 Kept state portion state' portion' = (state' ≡ state) × (portion' ≡ portion)
 
-abbrev pub StepsTo : List ℕ → List ℕ → List ℕ → List ℕ → Found → Wish → Cursor → StepPart → Said → List ℕ → List ℕ → Type 0
-StepsTo net log state portion found wish c step.Earlier r state' portion' = (r ≡ earlier_said c) × Kept state portion state' portion'
-StepsTo net log state portion found wish c step.Open r state' portion' =
-    (r ≡ open_said log found c r.cursor.started)
-    × Ran net log state c.fed (done_event log found c.step) c.started portion state' portion' r.cursor.started
-    × Feeds net log state c.fed (done_event log found c.step) c.started state' r.cursor.started
-StepsTo net log state portion found wish c step.Events r state' portion' =
-    (r ≡ events_said net log state found wish c) × Kept state portion state' portion'
-StepsTo net log state portion found wish c step.State r state' portion' = (r ≡ state_said state found c) × Kept state portion state' portion'
+abbrev pub StepsTo : Telling → List ℕ → List ℕ → Cursor → StepPart → Said → List ℕ → List ℕ → Type 0
+StepsTo t state portion c step.Earlier r state' portion' = (r ≡ earlier_said c) × Kept state portion state' portion'
+StepsTo t state portion c step.Open r state' portion' =
+    (r ≡ open_said t.log.now t.found c r.cursor.started)
+    × Ran t.net.now t.log.now state c.fed (done_event t.log.now t.found c.step) c.started portion state' portion' r.cursor.started
+    × Feeds t.net.now t.log.now state c.fed (done_event t.log.now t.found c.step) c.started state' r.cursor.started
+StepsTo t state portion c step.Events r state' portion' =
+    (r ≡ events_said t.net.now t.log.now state t.found t.wish c) × Kept state portion state' portion'
+StepsTo t state portion c step.State r state' portion' = (r ≡ state_said state t.found c) × Kept state portion state' portion'
 
 -- one call, by its part
-abbrev pub GoesOn : List ℕ → List ℕ → List ℕ → List ℕ → Found → Wish → Cursor → Part → Said → List ℕ → List ℕ → Type 0
-GoesOn net log state portion found wish c (part.Step p) r state' portion' = StepsTo net log state portion found wish c p r state' portion'
-GoesOn net log state portion found wish c (part.Verdict p) r state' portion' =
-    (r ≡ verdict_said net log state found c p) × Kept state portion state' portion'
-GoesOn net log state portion found wish c (part.Last p) r state' portion' = (r ≡ last_said log found c p) × Kept state portion state' portion'
-GoesOn net log state portion found wish c (part.Fault p) r state' portion' = (r ≡ fault_said net log found c p) × Kept state portion state' portion'
-GoesOn net log state portion found wish c part.End r state' portion' = (r ≡ end_said found c) × Kept state portion state' portion'
-GoesOn net log state portion found wish c part.Over r state' portion' = (r ≡ end_said found c) × Kept state portion state' portion'
+abbrev pub GoesOn : Telling → List ℕ → List ℕ → Cursor → Part → Said → List ℕ → List ℕ → Type 0
+GoesOn t state portion c (part.Step p) r state' portion' = StepsTo t state portion c p r state' portion'
+GoesOn t state portion c (part.Verdict p) r state' portion' =
+    (r ≡ verdict_said t.net.now t.log.now state t.found c p) × Kept state portion state' portion'
+GoesOn t state portion c (part.Last p) r state' portion' = (r ≡ last_said t.log.now t.found c p) × Kept state portion state' portion'
+GoesOn t state portion c (part.Fault p) r state' portion' = (r ≡ fault_said t.net.now t.log.now t.found c p) × Kept state portion state' portion'
+GoesOn t state portion c part.End r state' portion' = (r ≡ end_said t.found c) × Kept state portion state' portion'
+GoesOn t state portion c part.Over r state' portion' = (r ≡ end_said t.found c) × Kept state portion state' portion'
 
-abbrev pub given : List ℕ → List ℕ → List ℕ → Found → Wish → Given
-given net log first found wish = record { net = net; log = log; first = first; found = found; wish = wish }
+-- what a telling is about, where this is the net's initial state
+abbrev pub about : Telling → List ℕ → Given
+about t first = record { net = t.net.now; log = t.log.now; first = first; found = t.found; wish = t.wish }
 
 -- one phrase more is told, and the rest is still to be told
 pub record Tells (g : Given) (c : Cursor) (r : Said) (state' : List ℕ) : Type 0 where
@@ -266,9 +284,8 @@ pub record Tells (g : Given) (c : Cursor) (r : Said) (state' : List ℕ) : Type 
   pub reached : Reached g state' r.cursor
 
 -- whatever initial state the telling is about
-abbrev pub TellsOn : List ℕ → List ℕ → Found → Wish → Cursor → List ℕ → Said → List ℕ → Type 0
-TellsOn net log found wish c state r state' =
-    (first : List ℕ) → Reached (given net log first found wish) state c → Tells (given net log first found wish) c r state'
+abbrev pub TellsOn : Telling → Cursor → List ℕ → Said → List ℕ → Type 0
+TellsOn t c state r state' = (first : List ℕ) → Reached (about t first) state c → Tells (about t first) c r state'
 
-abbrev pub Somewhere : List ℕ → List ℕ → Found → Wish → Cursor → List ℕ → Type 0
-Somewhere net log found wish c state = (first : List ℕ) × Reached (given net log first found wish) state c
+abbrev pub Somewhere : Telling → Cursor → List ℕ → Type 0
+Somewhere t c state = (first : List ℕ) × Reached (about t first) state c

@@ -1,11 +1,13 @@
 -- The words of a state: its markings, and behind them its counts, row by row; and the phrases that say what a word holds.
 -- Assumes nothing.
-use Rattle.std.specs.Prelude.{Bool, true, false, not, cond, List, ℕ, ◌+◌, ◌-◌, ◌*◌, ◌/◌, ◌%◌, max, eqb, ltb, length}
+use Rattle.std.specs.Prelude.{Bool, not, cond, List, Option, ℕ, ◌+◌, ◌-◌, ◌*◌, ◌/◌, ◌%◌, max, eqb, ltb, length}
+use Rattle.std.specs.Option.{option_map}
 use Rattle.forms.specs.Word.{byte, word, word32}
 use Rattle.owed.specs.Bits.{bit_at}
 use Rattle.phrases.specs.declared.phrase.Phrase.{Phrase}
 use Rattle.phrases.specs.Phrase.{phrase}
-use Rattle.why.specs.declared.state.Cell.{Cell}
+use Rattle.why.specs.declared.state.Content.{Content}
+use Rattle.why.specs.declared.state.Content.TheVariants as content
 use Rattle.why.specs.declared.state.Difference.{Difference}
 use Rattle.why.specs.Each.{next_from}
 use Rattle.why.specs.Words.{mark_word, run_word, start_owed_word, end_owed_word}
@@ -30,32 +32,38 @@ abbrev pub is_mark : List ℕ → ℕ → Bool
 is_mark s i = ltb i (byte s 5)
 
 -- (a state has at least one age)
-abbrev pub cell_at : List ℕ → ℕ → Cell
-cell_at s i = record { transition = (i - byte s 5) / max 1 (byte s 7); age = (i - byte s 5) % max 1 (byte s 7) }
+unfoldable pub content_at : List ℕ → ℕ → Content
+content_at s i = cond (is_mark s i) (content.Marking i) (content.Count ((i - byte s 5) / max 1 (byte s 7)) ((i - byte s 5) % max 1 (byte s 7)))
 
 -- the phrase that says what word i holds
+abbrev pub holds_phrase : ℕ → Content → Phrase
+holds_phrase n (content.Marking p) = phrase mark_word p n 0 0
+holds_phrase n (content.Count t age) = phrase run_word t age n 0
+
 unfoldable pub held_phrase : List ℕ → ℕ → Phrase
-held_phrase s i =
-    cond (is_mark s i) (phrase mark_word i (held s i) 0 0) (phrase run_word (cell_at s i).transition (cell_at s i).age (held s i) 0)
+held_phrase s i = holds_phrase (held s i) (content_at s i)
 
 -- WHERE TWO STATES DIFFER
 
--- the first word in which they do, or the number of words
-unfoldable pub first_other : List ℕ → List ℕ → ℕ
+-- the first word in which they do
+unfoldable pub first_other : List ℕ → List ℕ → Option ℕ
 first_other a b = next_from (λ i. not (eqb (held a i) (held b i))) (word_count a) 0
 
 -- and what it holds in each
-unfoldable pub difference_of : List ℕ → List ℕ → Difference
-difference_of a b =
-    cond (ltb (first_other a b) (word_count a))
-    (record { same = false; at = first_other a b; here = held a (first_other a b); there = held b (first_other a b) })
-    (record { same = true; at = 0; here = 0; there = 0 })
+unfoldable pub difference_of : List ℕ → List ℕ → Option Difference
+difference_of a b = option_map (λ i. record { at = i; here = held a i; there = held b i }) (first_other a b)
 
 -- said with words for a marking, or with words for a count
-unfoldable pub other_phrase : ℕ → ℕ → List ℕ → Difference → Phrase
-other_phrase marks runs s d =
-    cond (is_mark s d.at) (phrase marks d.at d.here d.there 0)
-    (phrase runs (cell_at s d.at).transition (cell_at s d.at).age d.here d.there)
+abbrev pub tells_apart : ℕ → ℕ → ℕ → ℕ → Content → Phrase
+tells_apart marks runs here there (content.Marking p) = phrase marks p here there 0
+tells_apart marks runs here there (content.Count t age) = phrase runs t age here there
+
+unfoldable pub differs_phrase : ℕ → ℕ → List ℕ → Difference → Phrase
+differs_phrase marks runs s d = tells_apart marks runs d.here d.there (content_at s d.at)
+
+-- where one state differs from another, if it does
+abbrev pub other_phrase : ℕ → ℕ → List ℕ → List ℕ → Option Phrase
+other_phrase marks runs a b = option_map (differs_phrase marks runs a) (difference_of a b)
 
 -- WHAT IS OWED: the starts, by the bits of one word, and behind them the ends, by those of another
 

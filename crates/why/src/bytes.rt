@@ -8,13 +8,11 @@ use forms::words;
 pub fn byte_of(s: &[u8], i: usize) -> usize
     ensures { (result ≡ byte s.now i) × (result < 256) }
 {
-    if i < s.len() {
-        return words::wide(s[i]);
-    }
-    0
+    s.get(i).map_or(0, |b| usize::from(*b))
 }
 
 // The word of two bytes that starts at `at`.
+#[tactic(auto, unfolding(forms::specs::Word::word))]
 pub fn word_of(s: &[u8], at: usize) -> usize
     requires { at < 4294967296 }
     ensures { (result ≡ word s.now at) × (result < 65536) }
@@ -23,11 +21,13 @@ pub fn word_of(s: &[u8], at: usize) -> usize
 }
 
 // What the length field of a stored form says, and 0 where it is not whole.
+#[tactic(auto, unfolding(crate::specs::State::length_field))]
 pub fn length_field(s: &[u8]) -> usize
     ensures { result ≡ length_field s.now }
 {
     if s.len() < 5 {
-        return 0;
+        0
+    } else {
+        words::read32(s, 1)
     }
-    words::read32(s, 1)
 }

@@ -1,6 +1,6 @@
 // How far the telling has come. Every call of `telling::next` tells one phrase and moves on.
 ghost use Rattle.std.specs.Prelude.{◌≡◌};
-ghost use Rattle.why.specs.Said.{said, go_to, at_item, opens};
+ghost use Rattle.why.specs.Said.{said, go_to, at_item, opens, is_over};
 
 use phrases::phrase::Phrase;
 
@@ -75,16 +75,21 @@ pub struct Said {
 }
 
 impl Cursor {
+    // Nothing is left to be told.
+    pub fn is_over(self) -> bool
+        ensures { result ≡ is_over self }
+    {
+        matches!(self.part, Part::Over)
+    }
+
     // The front of another part.
     pub(crate) fn go_to(self, part: Part) -> Cursor
         ensures { result ≡ go_to self part }
     {
         Cursor {
-            part: part,
-            step: self.step,
+            part,
             item: 0,
-            fed: self.fed,
-            started: self.started,
+            ..self
         }
     }
 
@@ -92,14 +97,7 @@ impl Cursor {
     pub(crate) fn at_item(self, item: usize) -> Cursor
         ensures { result ≡ at_item self item }
     {
-        let part = self.part;
-        Cursor {
-            part: part,
-            step: self.step,
-            item: item,
-            fed: self.fed,
-            started: self.started,
-        }
+        Cursor { item, ..self }
     }
 
     // The opening of a step.
@@ -108,21 +106,19 @@ impl Cursor {
     {
         Cursor {
             part: Part::Step(StepPart::Open),
-            step: step,
+            step,
             item: 0,
-            fed: self.fed,
-            started: self.started,
+            ..self
         }
     }
-}
 
-impl Said {
-    pub(crate) fn of(phrase: Phrase, cursor: Cursor) -> Said
-        ensures { result ≡ said phrase cursor }
+    // A phrase, and the front of another part behind it.
+    pub(crate) fn says(self, phrase: Phrase, part: Part) -> Said
+        ensures { result ≡ said phrase (go_to self part) }
     {
         Said {
-            phrase: phrase,
-            cursor: cursor,
+            phrase,
+            cursor: self.go_to(part),
         }
     }
 }

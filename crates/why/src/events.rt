@@ -3,7 +3,7 @@ ghost use Rattle.std.specs.Prelude.{◌≡◌};
 ghost use Rattle.why.specs.Report.{say_event, event_phrase};
 
 use crate::{bytes, words as book};
-use forms::{places, words};
+use forms::places;
 use model::event::Event;
 use phrases::phrase::Phrase;
 
@@ -13,7 +13,7 @@ fn say(event: Event, first: usize, second: usize) -> Phrase
     match event {
         Event::Tick => Phrase::plain(book::TICK),
         Event::Start(t) => Phrase::one(book::START, t),
-        Event::End(t, age) => Phrase::two(book::END, t, words::wide(age.0)),
+        Event::End(t, age) => Phrase::two(book::END, t, usize::from(age.0)),
         Event::Malformed => Phrase::two(book::NO_EVENT, first, second),
     }
 }

@@ -1,12 +1,15 @@
 // A net or a log that is refused: its number, what that means, and what was expected.
-ghost use Rattle.std.specs.Prelude.{◌≡◌, ◌+◌, ◌<◌};
+ghost use Rattle.std.specs.Prelude.{◌≡◌, ◌+◌, ◌<◌, length};
+ghost use Rattle.forms.specs.Word.{byte};
+ghost use Rattle.phrases.specs.Phrase.{phrase};
+ghost use Rattle.why.specs.State.{length_field};
 ghost use Rattle.why.specs.Report.{row_of, expected_of, fault_opening};
 ghost use Rattle.why.specs.Said.{fault_said};
 
 use crate::cursor::{Cursor, FaultPart, Part, Said};
-use crate::found::Found;
+use crate::telling::Telling;
 use crate::{bytes, verdict, words as book};
-use forms::{places, words};
+use forms::places;
 use phrases::phrase::Phrase;
 
 // The number of a log that is refused.
@@ -16,76 +19,73 @@ const LOG_FRAME: u8 = 10;
 fn row_of(net: &[u8], t: usize) -> usize
     ensures { (result ≡ row_of net.now t) × (result < 262144) }
 {
-    let known = if t < 255 { t } else { 255 };
-    places::row_at(bytes::byte_of(net, places::PLACES_AT), known)
+    places::row_at(bytes::byte_of(net, places::PLACES_AT), t.min(255))
 }
 
-fn expected(net: &[u8], log: &[u8], number: u8, t: usize) -> Phrase
-    ensures { result ≡ expected_of net.now log.now number t }
+// A form's length, what its length field says, and its version.
+fn frame(word: usize, form: &[u8]) -> Phrase
+    ensures { result ≡ phrase word (length form.now) (length_field form.now) (byte form.now 0) 0 }
 {
-    let word = book::EXPECTED + words::wide(number);
-    if number == LOG_FRAME {
-        return Phrase::three(
-            word,
-            log.len(),
-            bytes::length_field(log),
-            bytes::byte_of(log, 0),
-        );
-    }
-    if number == 1 {
-        return Phrase::three(
-            word,
-            net.len(),
-            bytes::length_field(net),
-            bytes::byte_of(net, 0),
-        );
-    }
-    let places = bytes::byte_of(net, places::PLACES_AT);
-    let transitions = bytes::byte_of(net, places::TRANSITIONS_AT);
-    if number == 2 {
-        return Phrase::two(word, places, transitions);
-    }
-    if number == 3 {
-        return Phrase::four(
-            word,
-            places::row_at(places, transitions),
-            places,
-            transitions,
-            net.len(),
-        );
-    }
-    let row = row_of(net, t);
     Phrase::three(
         word,
-        t,
-        bytes::byte_of(net, row),
-        bytes::byte_of(net, row + 1),
+        form.len(),
+        bytes::length_field(form),
+        bytes::byte_of(form, 0),
     )
 }
 
-fn opening(found: Found) -> Phrase
-    ensures { result ≡ fault_opening found }
-{
-    let told = found.told;
-    if told.number == LOG_FRAME {
-        return Phrase::plain(book::LOG_REFUSED);
+impl Telling<'_> {
+    #[tactic(auto, unfolding(crate::specs::Report::expected_of))]
+    fn expected(&self) -> Phrase
+        ensures { result ≡ expected_of self.now.net.now self.now.log.now self.now.found.told.number self.now.found.told.index }
+    {
+        let net = self.net;
+        let t = self.found.told.index;
+        let number = self.found.told.number;
+        let word = book::EXPECTED + usize::from(number);
+        let places = bytes::byte_of(net, places::PLACES_AT);
+        let transitions = bytes::byte_of(net, places::TRANSITIONS_AT);
+        match number {
+            LOG_FRAME => frame(word, self.log),
+            1 => frame(word, net),
+            2 => Phrase::two(word, places, transitions),
+            3 => Phrase::four(
+                word,
+                places::row_at(places, transitions),
+                places,
+                transitions,
+                net.len(),
+            ),
+            _ => {
+                let row = row_of(net, t);
+                let sfd = bytes::byte_of(net, row);
+                let lfd = bytes::byte_of(net, row + 1);
+                Phrase::three(word, t, sfd, lfd)
+            }
+        }
     }
-    Phrase::plain(book::NET_REFUSED)
-}
 
-pub fn next(net: &[u8], log: &[u8], found: Found, cursor: Cursor, part: FaultPart) -> Said
-    ensures { result ≡ fault_said net.now log.now found cursor part }
-{
-    let told = found.told;
-    match part {
-        FaultPart::Opening => Said::of(opening(found), cursor.go_to(Part::Fault(FaultPart::Why))),
-        FaultPart::Why => Said::of(
-            verdict::meaning(told.number, told.index),
-            cursor.go_to(Part::Fault(FaultPart::Expected)),
-        ),
-        FaultPart::Expected => Said::of(
-            expected(net, log, told.number, told.index),
-            cursor.go_to(Part::End),
-        ),
+    fn fault_opening(&self) -> Phrase
+        ensures { result ≡ fault_opening self.now.found }
+    {
+        if self.found.told.number == LOG_FRAME {
+            Phrase::plain(book::LOG_REFUSED)
+        } else {
+            Phrase::plain(book::NET_REFUSED)
+        }
+    }
+
+    pub(crate) fn fault(&self, cursor: Cursor, part: FaultPart) -> Said
+        ensures { result ≡ fault_said self.now.net.now self.now.log.now self.now.found cursor part }
+    {
+        let told = self.found.told;
+        match part {
+            FaultPart::Opening => cursor.says(self.fault_opening(), Part::Fault(FaultPart::Why)),
+            FaultPart::Why => cursor.says(
+                verdict::meaning(told.number, told.index),
+                Part::Fault(FaultPart::Expected),
+            ),
+            FaultPart::Expected => cursor.says(self.expected(), Part::End),
+        }
     }
 }

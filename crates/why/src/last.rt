@@ -1,145 +1,146 @@
 // The last state: whether it is the one that the log leads to, and where a walk back from it stops or ends. And the last line of all.
 ghost use Rattle.std.specs.Prelude.{◌≡◌};
 ghost use Rattle.why.specs.Report.{is_good, no_way_phrase};
-ghost use Rattle.why.specs.Said.{end_said, walk_said, fit_said, opening_said, last_said};
+ghost use Rattle.why.specs.Said.{end_said, walk_said, not_fit_said, fit_opening_said, fit_said, last_said};
 
 use crate::cursor::{Cursor, LastPart, Part, Said};
-use crate::found::Found;
+use crate::found::{LastFit, LastFound};
+use crate::telling::Telling;
 use crate::{events, verdict, words as book};
-use forms::words;
+use engine::answers::Verdict;
 use phrases::phrase::Phrase;
+use runs::told::WalkTold;
 
 // The number that is told for a start before the event, and so for events in front of it.
 const BEHIND_A_START: u8 = 28;
 
-// The log was accepted, and the last state, where there is one, is the one that it leads to.
-fn is_good(found: Found) -> bool
-    ensures { result ≡ is_good found }
-{
-    let told = found.told;
-    let last = found.last;
-    let check = last.check;
-    if told.number != 0 {
-        return false;
-    }
-    if !last.given {
-        return true;
-    }
-    if check.number != 0 {
-        return false;
-    }
-    last.same
-}
-
-// The last line.
-pub fn end(found: Found, cursor: Cursor) -> Said
-    ensures { result ≡ end_said found cursor }
-{
-    let word = if is_good(found) {
-        book::ACCEPTED_END
-    } else {
-        book::REFUSED_END
-    };
-    Said::of(Phrase::plain(word), cursor.go_to(Part::Over))
-}
-
 // No lawful state leads to the last state by the event at which the walk stopped and those behind it.
-fn no_way(found: Found) -> Phrase
-    ensures { result ≡ no_way_phrase found }
+fn no_way(walk: WalkTold) -> Phrase
+    ensures { result ≡ no_way_phrase walk }
 {
-    let last = found.last;
-    let walk = last.walk;
     if walk.number == BEHIND_A_START {
-        return Phrase::one(book::NO_WAY_STARTED, walk.index);
+        Phrase::one(book::NO_WAY_STARTED, walk.index)
+    } else {
+        Phrase::one(book::NO_WAY, walk.index)
     }
-    Phrase::one(book::NO_WAY, walk.index)
 }
 
-fn walk(found: Found, cursor: Cursor) -> Said
-    ensures { result ≡ walk_said found cursor }
+// The walk back ends at the front of the log, or stops.
+#[tactic(auto, unfolding(crate::specs::Said::walk_said))]
+fn walk_back(walk: WalkTold, cursor: Cursor) -> Said
+    ensures { result ≡ walk_said walk cursor }
 {
-    let last = found.last;
-    let walk = last.walk;
     if walk.number == 0 {
-        return Said::of(
+        cursor.says(
             Phrase::plain(book::WALK_ENDS),
-            cursor.go_to(Part::Last(LastPart::Front)),
-        );
+            Part::Last(LastPart::Front),
+        )
+    } else {
+        cursor.says(
+            Phrase::one(book::WALK_STOPS, walk.index),
+            Part::Last(LastPart::Event),
+        )
     }
-    Said::of(
-        Phrase::one(book::WALK_STOPS, walk.index),
-        cursor.go_to(Part::Last(LastPart::Event)),
-    )
 }
 
-// A state of the net: the log leads to it, or to another; or it was refused, just behind it or elsewhere.
-fn fit(found: Found, cursor: Cursor) -> Said
-    ensures { result ≡ fit_said found cursor }
-{
-    let told = found.told;
-    let last = found.last;
-    if told.number != 0 {
-        if last.same {
-            return Said::of(
-                Phrase::plain(book::LAST_BEFORE),
-                cursor.go_to(Part::Last(LastPart::Walk)),
-            );
+impl Telling<'_> {
+    // The log was accepted, and the last state, where there is one, is the one that it leads to.
+    fn is_good(&self) -> bool
+        ensures { result ≡ is_good self.now.found }
+    {
+        self.found.told.number == 0
+            && match self.found.last {
+                LastFound::NotGiven => true,
+                LastFound::NotFit(_, _) => false,
+                LastFound::Fit(fit) => fit.other.is_none(),
+            }
+    }
+
+    // The last line.
+    pub(crate) fn end(&self, cursor: Cursor) -> Said
+        ensures { result ≡ end_said self.now.found cursor }
+    {
+        let word = if self.is_good() {
+            book::ACCEPTED_END
+        } else {
+            book::REFUSED_END
+        };
+        cursor.says(Phrase::plain(word), Part::Over)
+    }
+
+    // It is no state of the net. (The other parts are of one that is.)
+    fn not_fit(&self, check: Verdict, expected: Phrase, cursor: Cursor, part: LastPart) -> Said
+        ensures { result ≡ not_fit_said self.now.found check expected cursor part }
+    {
+        match part {
+            LastPart::Opening => cursor.says(
+                Phrase::plain(book::LAST_REFUSED),
+                Part::Last(LastPart::Check),
+            ),
+            LastPart::Check => cursor.says(
+                verdict::meaning(check.number, check.index),
+                Part::Last(LastPart::Expected),
+            ),
+            LastPart::Expected => cursor.says(expected, Part::End),
+            _ => self.end(cursor),
         }
-        return walk(found, cursor);
     }
-    if last.same {
-        return Said::of(Phrase::plain(book::LAST_SAME), cursor.go_to(Part::End));
-    }
-    Said::of(
-        Phrase::plain(book::LAST_OTHER),
-        cursor.go_to(Part::Last(LastPart::Other)),
-    )
-}
 
-fn opening(found: Found, cursor: Cursor) -> Said
-    ensures { result ≡ opening_said found cursor }
-{
-    let last = found.last;
-    let check = last.check;
-    if !last.given {
-        return end(found, cursor);
+    // A state of the net: the log leads to it, or to another; or it was refused, just behind it or elsewhere.
+    #[tactic(auto, unfolding(crate::specs::Said::fit_opening_said))]
+    fn fit_opening(&self, fit: LastFit, cursor: Cursor) -> Said
+        ensures { result ≡ fit_opening_said self.now.found fit cursor }
+    {
+        match (self.found.told.number, fit.other) {
+            (0, None) => cursor.says(Phrase::plain(book::LAST_SAME), Part::End),
+            (0, Some(_)) => cursor.says(
+                Phrase::plain(book::LAST_OTHER),
+                Part::Last(LastPart::Other),
+            ),
+            (_, None) => cursor.says(
+                Phrase::plain(book::LAST_BEFORE),
+                Part::Last(LastPart::Walk),
+            ),
+            (_, Some(_)) => walk_back(fit.walk, cursor),
+        }
     }
-    if check.number != 0 {
-        return Said::of(
-            Phrase::plain(book::LAST_REFUSED),
-            cursor.go_to(Part::Last(LastPart::Check)),
-        );
-    }
-    fit(found, cursor)
-}
 
-pub fn next(log: &[u8], found: Found, cursor: Cursor, part: LastPart) -> Said
-    ensures { result ≡ last_said log.now found cursor part }
-{
-    let last = found.last;
-    let check = last.check;
-    let walked = last.walk;
-    let expected = last.expected;
-    let other = last.other;
-    let front = last.front;
-    match part {
-        LastPart::Opening => opening(found, cursor),
-        LastPart::Check => Said::of(
-            verdict::meaning(check.number, check.index),
-            cursor.go_to(Part::Last(LastPart::Expected)),
-        ),
-        LastPart::Expected => Said::of(expected, cursor.go_to(Part::End)),
-        LastPart::Other => Said::of(other, cursor.go_to(Part::Last(LastPart::Walk))),
-        LastPart::Walk => walk(found, cursor),
-        LastPart::Event => Said::of(
-            events::event_phrase(log, walked.index),
-            cursor.go_to(Part::Last(LastPart::Why)),
-        ),
-        LastPart::Why => Said::of(
-            Phrase::plain(book::BACK_WHY + words::wide(walked.number)),
-            cursor.go_to(Part::Last(LastPart::NoWay)),
-        ),
-        LastPart::NoWay => Said::of(no_way(found), cursor.go_to(Part::End)),
-        LastPart::Front => Said::of(front, cursor.go_to(Part::End)),
+    // It is one. (The other parts are of one that is not.)
+    fn fit(&self, fit: LastFit, cursor: Cursor, part: LastPart) -> Said
+        ensures { result ≡ fit_said self.now.log.now self.now.found fit cursor part }
+    {
+        let walk = fit.walk;
+        match part {
+            LastPart::Opening => self.fit_opening(fit, cursor),
+            LastPart::Other => match fit.other {
+                Some(other) => cursor.says(other, Part::Last(LastPart::Walk)),
+                None => walk_back(walk, cursor),
+            },
+            LastPart::Walk => walk_back(walk, cursor),
+            LastPart::Event => cursor.says(
+                events::event_phrase(self.log, walk.index),
+                Part::Last(LastPart::Why),
+            ),
+            LastPart::Why => cursor.says(
+                Phrase::plain(book::BACK_WHY + usize::from(walk.number)),
+                Part::Last(LastPart::NoWay),
+            ),
+            LastPart::NoWay => cursor.says(no_way(walk), Part::End),
+            LastPart::Front => match fit.front {
+                Some(front) => cursor.says(front, Part::End),
+                None => self.end(cursor),
+            },
+            _ => self.end(cursor),
+        }
+    }
+
+    pub(crate) fn last(&self, cursor: Cursor, part: LastPart) -> Said
+        ensures { result ≡ last_said self.now.log.now self.now.found cursor part }
+    {
+        match self.found.last {
+            LastFound::NotGiven => self.end(cursor),
+            LastFound::NotFit(check, expected) => self.not_fit(check, expected, cursor, part),
+            LastFound::Fit(fit) => self.fit(fit, cursor, part),
+        }
     }
 }

@@ -1,24 +1,23 @@
 // The words of a state: its markings, and behind them its counts, row by row. Those that hold something are told, and of two states the first
 // word in which they differ.
-ghost use Rattle.std.specs.Prelude.{◌≡◌, ◌-◌, ◌<◌, max};
+ghost use Rattle.std.specs.Prelude.{◌≡◌, ◌-◌, ◌<◌, IfSome};
 ghost use Rattle.why.specs.Each.{next_from};
-ghost use Rattle.why.specs.State.{word_count, held, is_held, cell_at, held_phrase, first_other, difference_of, other_phrase};
+ghost use Rattle.why.specs.State.{word_count, held, is_held, content_at, held_phrase, first_other, difference_of, differs_phrase, other_phrase};
 
 use crate::{bytes, words as book};
 use forms::places;
 use phrases::phrase::Phrase;
 
-// A transition and an age.
+// What a word of a state is: the marking of a place, or the count of a transition at an age.
 #[derive(Clone, Copy)]
-pub struct Cell {
-    pub transition: usize,
-    pub age: usize,
+pub enum Content {
+    Marking(usize),
+    Count(usize, usize),
 }
 
-// The first word in which two states differ, and what it holds in the one and in the other.
+// A word in which two states differ, and what it holds in the one and in the other.
 #[derive(Clone, Copy)]
 pub struct Difference {
-    pub same: bool,
     pub at: usize,
     pub here: usize,
     pub there: usize,
@@ -34,6 +33,7 @@ pub fn word_count(state: &[u8]) -> usize
 }
 
 // What word i holds.
+#[tactic(auto, unfolding(crate::specs::State::held))]
 pub fn held(state: &[u8], i: usize) -> usize
     requires { i < 65536 }
     ensures { (result ≡ held state.now i) × (result < 65536) }
@@ -41,95 +41,77 @@ pub fn held(state: &[u8], i: usize) -> usize
     bytes::word_of(state, 8 + 2 * i)
 }
 
-// The lowest word from `from` on that holds something, or the number of words.
-pub fn next_held(state: &[u8], from: usize) -> usize
-    ensures { result ≡ next_from (is_held state.now) (word_count state.now - from) from }
+// The lowest word from `from` on that holds something.
+#[tactic(auto, unfolding(crate::specs::Each::next_from))]
+pub fn next_held(state: &[u8], from: usize) -> Option<usize>
+    ensures value { result ≡ next_from (is_held state.now) (word_count state.now - from) from }
+    ensures upper_bound { IfSome result (λ i. i < 65536) }
 {
-    let count = word_count(state);
-    let mut i = from;
-    while i < count {
-        if 0 < held(state, i) {
-            return i;
-        }
-        i += 1;
-    }
-    i
+    (from..word_count(state)).find(|i| 0 < held(state, *i))
 }
 
-// The first word in which two states differ, or the number of words.
-fn first_other(one: &[u8], other: &[u8]) -> usize
-    ensures { (result ≡ first_other one.now other.now) × (result < 65536) }
+// The first word in which two states differ.
+#[tactic(auto, unfolding(crate::specs::State::first_other, crate::specs::Each::next_from))]
+fn first_other(one: &[u8], other: &[u8]) -> Option<usize>
+    ensures value { result ≡ first_other one.now other.now }
+    ensures upper_bound { IfSome result (λ i. i < 65536) }
 {
-    let count = word_count(one);
-    let mut i = 0;
-    while i < count {
-        if held(one, i) != held(other, i) {
-            return i;
-        }
-        i += 1;
-    }
-    i
+    (0..word_count(one)).find(|i| held(one, *i) != held(other, *i))
 }
 
-pub fn differ(one: &[u8], other: &[u8]) -> Difference
+#[tactic(auto, unfolding(crate::specs::State::difference_of))]
+fn differ(one: &[u8], other: &[u8]) -> Option<Difference>
     ensures { result ≡ difference_of one.now other.now }
 {
-    let at = first_other(one, other);
-    if at < word_count(one) {
-        return Difference {
-            same: false,
-            at: at,
-            here: held(one, at),
-            there: held(other, at),
-        };
-    }
-    Difference {
-        same: true,
-        at: 0,
-        here: 0,
-        there: 0,
-    }
+    let at = first_other(one, other)?;
+    Some(Difference {
+        at,
+        here: held(one, at),
+        there: held(other, at),
+    })
 }
 
-fn at_least_one(n: usize) -> usize
-    ensures { (result ≡ max 1 n) × (0 < result) }
-{
-    if n < 1 { 1 } else { n }
-}
-
-// Whose count word i is, where it is no marking.
-fn cell_of(state: &[u8], i: usize) -> Cell
-    ensures { result ≡ cell_at state.now i }
+// What word i is. (A state has at least one age.)
+#[tactic(auto, unfolding(crate::specs::State::content_at))]
+fn content_at(state: &[u8], i: usize) -> Content
+    ensures { result ≡ content_at state.now i }
 {
     let places = bytes::byte_of(state, places::PLACES_AT);
-    let width = at_least_one(bytes::byte_of(state, places::WIDTH_AT));
-    let cell = if i < places { 0 } else { i - places };
-    Cell {
-        transition: cell / width,
-        age: cell % width,
+    let width = bytes::byte_of(state, places::WIDTH_AT).max(1);
+    if i < places {
+        Content::Marking(i)
+    } else {
+        Content::Count((i - places) / width, (i - places) % width)
     }
 }
 
 // What word i holds, as a phrase.
+#[tactic(auto, unfolding(crate::specs::State::held_phrase))]
 pub fn held_phrase(state: &[u8], i: usize) -> Phrase
     requires { i < 65536 }
     ensures { result ≡ held_phrase state.now i }
 {
     let tokens = held(state, i);
-    if i < bytes::byte_of(state, places::PLACES_AT) {
-        return Phrase::two(book::MARK, i, tokens);
+    match content_at(state, i) {
+        Content::Marking(p) => Phrase::two(book::MARK, p, tokens),
+        Content::Count(t, age) => Phrase::three(book::RUN, t, age, tokens),
     }
-    let cell = cell_of(state, i);
-    Phrase::three(book::RUN, cell.transition, cell.age, tokens)
 }
 
 // A difference as a phrase, in words of a marking or in words of a count.
-pub fn other_phrase(state: &[u8], marks: usize, runs: usize, found: Difference) -> Phrase
-    ensures { result ≡ other_phrase marks runs state.now found }
+#[tactic(auto, unfolding(crate::specs::State::differs_phrase))]
+fn differs_phrase(state: &[u8], marks: usize, runs: usize, found: Difference) -> Phrase
+    ensures { result ≡ differs_phrase marks runs state.now found }
 {
-    if found.at < bytes::byte_of(state, places::PLACES_AT) {
-        return Phrase::three(marks, found.at, found.here, found.there);
+    match content_at(state, found.at) {
+        Content::Marking(p) => Phrase::three(marks, p, found.here, found.there),
+        Content::Count(t, age) => Phrase::four(runs, t, age, found.here, found.there),
     }
-    let cell = cell_of(state, found.at);
-    Phrase::four(runs, cell.transition, cell.age, found.here, found.there)
+}
+
+// Where a state differs from another, as a phrase.
+pub fn other_phrase(one: &[u8], other: &[u8], marks: usize, runs: usize) -> Option<Phrase>
+    ensures { result ≡ other_phrase marks runs one.now other.now }
+{
+    differ(one, other).map(|found| differs_phrase(one, marks, runs, found))
 }

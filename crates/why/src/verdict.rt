@@ -4,10 +4,9 @@ ghost use Rattle.why.specs.Report.{meaning};
 ghost use Rattle.why.specs.Said.{outcome_said, why_said, lacks_said, owed_said, behind_said, verdict_said};
 
 use crate::cursor::{Cursor, LastPart, Part, Said, VerdictPart};
-use crate::found::Found;
+use crate::telling::Telling;
 use crate::{events, owing, words as book};
 use engine::calls;
-use forms::words;
 use phrases::phrase::Phrase;
 
 // The number that has a place to tell.
@@ -17,107 +16,95 @@ const NOT_ENABLED: u8 = 13;
 pub fn meaning(number: u8, t: usize) -> Phrase
     ensures { result ≡ meaning number t }
 {
-    Phrase::one(book::WHY + words::wide(number), t)
+    Phrase::one(book::WHY + usize::from(number), t)
 }
 
-fn outcome(found: Found, cursor: Cursor) -> Said
-    ensures { result ≡ outcome_said found cursor }
-{
-    let told = found.told;
-    if told.number == 0 {
-        return Said::of(
-            Phrase::two(book::ACCEPTED, found.events, told.ticks),
-            cursor.go_to(Part::Verdict(VerdictPart::Owed)),
-        );
+impl Telling<'_> {
+    #[tactic(auto, unfolding(crate::specs::Said::outcome_said))]
+    fn outcome(&self, cursor: Cursor) -> Said
+        ensures { result ≡ outcome_said self.now.found cursor }
+    {
+        let told = self.found.told;
+        if told.number == 0 {
+            cursor.says(
+                Phrase::two(book::ACCEPTED, self.found.events, told.ticks),
+                Part::Verdict(VerdictPart::Owed),
+            )
+        } else {
+            cursor.says(
+                Phrase::two(book::REFUSED, told.index, told.ticks),
+                Part::Verdict(VerdictPart::Event),
+            )
+        }
     }
-    Said::of(
-        Phrase::two(book::REFUSED, told.index, told.ticks),
-        cursor.go_to(Part::Verdict(VerdictPart::Event)),
-    )
-}
 
-fn why(found: Found, cursor: Cursor) -> Said
-    ensures { result ≡ why_said found cursor }
-{
-    let told = found.told;
-    if told.number == NOT_ENABLED {
-        return Said::of(
-            meaning(told.number, 0),
-            cursor.go_to(Part::Verdict(VerdictPart::Lacks)),
-        );
+    #[tactic(auto, unfolding(crate::specs::Said::why_said))]
+    fn why(&self, cursor: Cursor) -> Said
+        ensures { result ≡ why_said self.now.found cursor }
+    {
+        let number = self.found.told.number;
+        if number == NOT_ENABLED {
+            cursor.says(meaning(number, 0), Part::Verdict(VerdictPart::Lacks))
+        } else {
+            cursor.says(meaning(number, 0), Part::Verdict(VerdictPart::Owed))
+        }
     }
-    Said::of(
-        meaning(told.number, 0),
-        cursor.go_to(Part::Verdict(VerdictPart::Owed)),
-    )
-}
 
-fn lacks(found: Found, cursor: Cursor) -> Said
-    ensures { result ≡ lacks_said found cursor }
-{
-    let told = found.told;
-    let short = told.short;
-    Said::of(
-        Phrase::two(book::LACKS, short.place as usize, short.lacks as usize),
-        cursor.go_to(Part::Verdict(VerdictPart::Owed)),
-    )
-}
-
-// The next thing that is owed, or that there is no more.
-fn owed(net: &[u8], state: &[u8], found: Found, cursor: Cursor) -> Said
-    ensures { result ≡ owed_said net.now state.now found cursor }
-{
-    let told = found.told;
-    let owed = calls::owed(net, state);
-    let starts = owed.starts;
-    let ends = owed.ends;
-    let i = owing::next_owed(starts.word, ends.word, cursor.item);
-    if i < owing::OWED_MOST {
-        return Said::of(owing::owed_phrase(i), cursor.at_item(i + 1));
+    fn lacks(&self, cursor: Cursor) -> Said
+        ensures { result ≡ lacks_said self.now.found cursor }
+    {
+        let short = self.found.told.short;
+        cursor.says(
+            Phrase::two(book::LACKS, short.place as usize, short.lacks as usize),
+            Part::Verdict(VerdictPart::Owed),
+        )
     }
-    let no_more = Phrase::plain(book::OWED_END);
-    if told.number == 0 {
-        return Said::of(no_more, cursor.go_to(Part::Last(LastPart::Opening)));
+
+    // The next thing that is owed, or that there is no more.
+    #[tactic(auto, unfolding(crate::specs::Said::owed_said))]
+    fn owed(&self, state: &[u8], cursor: Cursor) -> Said
+        ensures { result ≡ owed_said self.now.net.now state.now self.now.found cursor }
+    {
+        let owed = calls::owed(self.net, state);
+        let next = owing::next_owed(owed.starts.word, owed.ends.word, cursor.item);
+        if let Some(i) = next {
+            return Said {
+                phrase: owing::owed_phrase(i),
+                cursor: cursor.at_item(i + 1),
+            };
+        }
+        let no_more = Phrase::plain(book::OWED_END);
+        if self.found.told.number == 0 {
+            cursor.says(no_more, Part::Last(LastPart::Opening))
+        } else {
+            cursor.says(no_more, Part::Verdict(VerdictPart::Behind))
+        }
     }
-    Said::of(no_more, cursor.go_to(Part::Verdict(VerdictPart::Behind)))
-}
 
-// How many events stand behind the refused one.
-fn behind(found: Found, cursor: Cursor) -> Said
-    ensures { result ≡ behind_said found cursor }
-{
-    let told = found.told;
-    let count = if told.index < found.events {
-        found.events - told.index - 1
-    } else {
-        0
-    };
-    Said::of(
-        Phrase::one(book::BEHIND, count),
-        cursor.go_to(Part::Last(LastPart::Opening)),
-    )
-}
+    // How many events stand behind the refused one.
+    fn behind(&self, cursor: Cursor) -> Said
+        ensures { result ≡ behind_said self.now.found cursor }
+    {
+        let count = self.found.events.saturating_sub(self.found.told.index).saturating_sub(1);
+        cursor.says(
+            Phrase::one(book::BEHIND, count),
+            Part::Last(LastPart::Opening),
+        )
+    }
 
-pub fn next(
-    net: &[u8],
-    log: &[u8],
-    state: &[u8],
-    found: Found,
-    cursor: Cursor,
-    part: VerdictPart,
-) -> Said
-    ensures { result ≡ verdict_said net.now log.now state.now found cursor part }
-{
-    let told = found.told;
-    match part {
-        VerdictPart::Outcome => outcome(found, cursor),
-        VerdictPart::Event => Said::of(
-            events::event_phrase(log, told.index),
-            cursor.go_to(Part::Verdict(VerdictPart::Why)),
-        ),
-        VerdictPart::Why => why(found, cursor),
-        VerdictPart::Lacks => lacks(found, cursor),
-        VerdictPart::Owed => owed(net, state, found, cursor),
-        VerdictPart::Behind => behind(found, cursor),
+    pub(crate) fn verdict(&self, state: &[u8], cursor: Cursor, part: VerdictPart) -> Said
+        ensures { result ≡ verdict_said self.now.net.now self.now.log.now state.now self.now.found cursor part }
+    {
+        match part {
+            VerdictPart::Outcome => self.outcome(cursor),
+            VerdictPart::Event => cursor.says(
+                events::event_phrase(self.log, self.found.told.index),
+                Part::Verdict(VerdictPart::Why),
+            ),
+            VerdictPart::Why => self.why(cursor),
+            VerdictPart::Lacks => self.lacks(cursor),
+            VerdictPart::Owed => self.owed(state, cursor),
+            VerdictPart::Behind => self.behind(cursor),
+        }
     }
 }
