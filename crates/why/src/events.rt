@@ -19,6 +19,7 @@ fn say(event: Event, first: usize, second: usize) -> Phrase
 }
 
 // Event i of the log. (Where there is none its bytes are 0.)
+#[tactic(auto, unfolding(crate::specs::Report::event_phrase))]
 pub fn event_phrase(log: &[u8], i: usize) -> Phrase
     ensures { result ≡ event_phrase log.now i }
 {

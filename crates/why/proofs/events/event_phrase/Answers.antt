@@ -22,16 +22,5 @@ module _ (log : List ℕ) (i : ℕ) where
       let second : byte log (event_at i + 1) ≡ 0 = get_or-eq_default log 0 (omega arith) in
       rw (first, second) refl
 
-  said : (first second : ℕ) (e : Event) (r : Phrase) → first ≡ byte log (event_at i) → second ≡ byte log (event_at i + 1)
-      → e ≡ event_of first second → r ≡ say_event e first second → r ≡ event_phrase log i
-  unfolding event_phrase
-  said first second e r f s o h = h ∙ rw (o, f, s) refl
-
 pub returns-then-log-i : goal.returns-then-log-i
 returns-then-log-i c = c.plain.ensures ∙ behind-it c.args.log.now c.args.i c.if-log-i.true
-
-pub returns : goal.returns
-returns c =
-    let a = c.args in
-    said a.log.now a.i c.byte_of-first.result c.byte_of-second.result c.of.result c.say.result
-    c.byte_of-first.ensures.0 c.byte_of-second.ensures.0 c.of.ensures c.say.ensures
