@@ -6,7 +6,7 @@
 mod table;
 
 ghost use Rattle.std.specs.Prelude.{◌+◌, ◌≤◌, ◌≡◌, length, IfOk, IfSome};
-ghost use Rattle.why.specs.Said.{given, Reached};
+ghost use Rattle.why.specs.Said.{about, Reached};
 ghost use Rattle.menuwhy.specs.Room.{phrase_most};
 
 use phrases::arguments::{Asked, Misuse, Request};
@@ -144,27 +144,23 @@ fn tell_bad_names<W: Write>(to: &mut W, names: &[u8], out: &mut [u8]) -> io::Res
 // Tells phrase after phrase, from where the telling begins.
 fn tell_all<W: Write>(
     to: &mut W,
-    net: &[u8],
-    log: &[u8],
+    begun: Begun,
     state: &mut [u8],
     portion: &mut [u8],
-    begun: Begun,
-    wish: Wish,
     names: &[u8],
     out: &mut [u8],
 ) -> io::Result<()>
-    requires reached { Reached (given net.now log.now state.old begun.found wish) state.old begun.cursor }
-    requires log_in_bounds { (length log.now ≤ length portion.old) × (phrase_most ≤ length out.old) }
+    requires reached { Reached (about begun.telling state.old) state.old begun.cursor }
+    requires log_in_bounds { (length begun.telling.log.now ≤ length portion.old) × (phrase_most ≤ length out.old) }
 {
-    let found = begun.found;
-    let mut cursor = begun.cursor;
+    let telling = begun.telling;
+    let mut next = Some(begun.cursor);
     let mut end = 0;
-    while !telling::is_over(cursor) {
-        let said = telling::next(net, log, state, portion, found, wish, cursor);
-        let phrase = said.phrase;
-        cursor = said.cursor;
+    while let Some(cursor) = next {
+        let said = telling.next(state, portion, cursor);
+        next = said.cursor;
         let at = make_room(to, out, end)?;
-        end = table::put(out, at, phrase, names);
+        end = table::put(out, at, said.phrase, names);
     }
     flush(to, out, end)
 }
@@ -185,7 +181,7 @@ fn tell<W: Write>(
     to: &mut W,
     net: &[u8],
     log: &[u8],
-    last: &mut [u8],
+    last: Option<&mut [u8]>,
     names: &[u8],
     request: Request,
     out: &mut [u8],
@@ -199,18 +195,8 @@ fn tell<W: Write>(
         states: request.states,
     };
     tell_bad_names(to, names, out)?;
-    let begun = telling::begin(net, log, &mut state, last, request.last.is_some(), wish);
-    tell_all(
-        to,
-        net,
-        log,
-        &mut state,
-        &mut portion,
-        begun,
-        wish,
-        names,
-        out,
-    )
+    let begun = telling::begin(net, log, &mut state, last, wish);
+    tell_all(to, begun, &mut state, &mut portion, names, out)
 }
 
 // Reads the files, and tells.
@@ -237,7 +223,7 @@ fn serve(rt: &HostRuntime, request: Request) -> io::Result<()> {
         &mut stdout,
         &net[..n],
         &log[..l],
-        &mut last[..s],
+        request.last.is_some().then_some(&mut last[..s]),
         &names[..m],
         request,
         &mut out,

@@ -1,20 +1,17 @@
 -- Where the telling begins: there nothing has been fed, and all is still to be told.
 -- Assumes nothing.
-use mathlib.Core.Path.{◌≡◌, refl}
-use mathlib.Core.Bool.{true, false}
+use mathlib.Core.Path.{refl}
+use mathlib.Core.Bool.{false}
 use mathlib.Core.List.{List}
-use Prim.Native.Nat.{ℕ, ◌-◌, ◌<◌, ◌≤◌}
+use Prim.Native.Nat.{ℕ, ◌≤◌}
 use native.Mathlib.Omega.{arith}
 use lib.Dec.{ltb}
-use borrow.Author.Tests.{lt-ltb, le-ltb}
 use Rattle.why.specs.declared.found.Found.{Found}
 use Rattle.why.specs.declared.found.Wish.{Wish}
 use Rattle.why.specs.declared.telling.Telling.{Telling}
 use Rattle.why.specs.declared.cursor.StepPart.TheVariants as step
-use Rattle.why.specs.declared.cursor.FaultPart.TheVariants as fault
 use Rattle.why.specs.declared.cursor.Part.{Part}
 use Rattle.why.specs.declared.cursor.Part.TheVariants as part
-use Rattle.why.specs.declared.cursor.Cursor.{Cursor}
 use Rattle.why.specs.Found.{Ready}
 use Rattle.why.specs.Report.{last_step}
 use Rattle.replay.specs.Replayed.{is_early}

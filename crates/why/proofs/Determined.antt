@@ -18,8 +18,6 @@ use Rattle.why.specs.Found.{left_behind}
 use Rattle.why.specs.Said.{open_said, Kept, StepsTo, GoesOn}
 use Rattle.why.proofs.telling.begin.Reads as begin
 use Rattle.why.proofs.telling.begin.Kinds as begin-kinds
-use Rattle.why.proofs.cursor.Cursor.is_over.Reads as is-over
-use Rattle.why.proofs.cursor.Cursor.is_over.Kinds as is-over-kinds
 use Rattle.why.proofs.telling.Telling.next.Reads as next
 use Rattle.why.proofs.telling.Telling.next.Kinds as next-kinds
 
@@ -33,9 +31,6 @@ begin-leaves κs args x y s s' p q = p.1.0 ∙ sym q.1.0
 pub begin-leaves-last : (κs : Lfts 3) (args : Dens κs begin-kinds.ps) (x y : (res_t begin-kinds.r κs).Denot) (s s' : AtExit (ended_of 3 begin-kinds.ps begin-kinds.r) κs)
     → begin.Learnt κs args x s → begin.Learnt κs args y s' → left_behind s.1.1.1.0 ≡ left_behind s'.1.1.1.0
 begin-leaves-last κs args x y s s' p q = p.1.1.0 ∙ sym q.1.1.0
-
-pub is-over-determined : Determined 0 is-over-kinds.ps is-over-kinds.r is-over.Learnt
-is-over-determined κs args x y s s' p q = p ∙ sym q
 
 -- THE NEXT PHRASE
 
@@ -63,7 +58,6 @@ module _ (t : Telling) (state portion : List ℕ) (c : Cursor) (r r₂ : Said) (
   goes-once (part.Last p) x y = kept-once x y
   goes-once (part.Fault p) x y = kept-once x y
   goes-once part.End x y = kept-once x y
-  goes-once part.Over x y = kept-once x y
 
 pub next-determined : Determined 4 next-kinds.ps next-kinds.r next.Learnt
 next-determined κs args x y s s' p q =

@@ -1,29 +1,25 @@
 -- What is found out first, and that the telling can begin behind it.
 -- Assumes nothing.
 use mathlib.Core.Path.{◌≡◌, refl, sym, ap, ◌∙◌}
-use mathlib.Core.Bool.{Bool, true, false}
+use mathlib.Core.Bool.{false}
 use mathlib.Core.List.{List, []}
-use Prim.Native.Nat.{ℕ, ◌+◌}
+use Prim.Native.Nat.{ℕ}
 use native.Mathlib.Omega.{arith}
-use lib.Dec.{eqb}
 use lib.ListN.{length}
-use borrow.Author.Tests.{eq-eqb, ne_eqb}
 use Rattle.model.specs.declared.net.Net.{Net as Shape}
 use Rattle.model.specs.Net.{State}
 use Rattle.model.specs.Run.{stay, run, started_after}
-use Rattle.forms.specs.Word.{Bytes, byte}
+use Rattle.forms.specs.Word.{Bytes}
 use Rattle.forms.specs.Stored.{net_of, stored, events_in, log_events}
-use Rattle.forms.specs.Logs.{IsLog, event_count}
+use Rattle.forms.specs.Logs.{IsLog}
 use Rattle.forms.specs.Frame.{Framed, Began}
 use Rattle.forms.proofs.Written.{written-own}
 use Rattle.runs.specs.declared.told.RunTold.{RunTold}
-use Rattle.runs.specs.declared.told.WalkTold.{WalkTold}
 use Rattle.runs.specs.Runs.{told_of_run}
 use Rattle.engine.specs.declared.examine.Examined.{Examined}
 use Rattle.engine.specs.declared.examine.Examined.TheVariants as examined
 use Rattle.engine.specs.Examined.{examine_state, examine_log}
-use Rattle.engine.specs.declared.answers.Verdict.{Verdict}
-use Rattle.engine.specs.Calls.{events_part, state_told, initial_left, run_told, run_left, walk_told, walk_left}
+use Rattle.engine.specs.Calls.{events_part, initial_left, run_told}
 use Rattle.engine.specs.Demands.{Passes}
 use Rattle.engine.specs.Promised.{Fit}
 use Rattle.engine.proofs.Fits.{log-fits}
@@ -33,12 +29,6 @@ use Rattle.engine.proofs.PastChecks.{run-told}
 use Rattle.engine.proofs.Promised.{fit-meets}
 use Rattle.replay.specs.Replayed.{is_early}
 use Rattle.replay.proofs.Shown.{fault-early, not-both}
-use Rattle.phrases.specs.declared.phrase.Phrase.{Phrase}
-use Rattle.phrases.specs.Phrase.{phrase}
-use Rattle.why.specs.declared.state.Difference.{Difference}
-use Rattle.why.specs.declared.found.LastFound.{LastFound}
-use Rattle.why.specs.Words.{mark_other_word, run_other_word, mark_first_word, run_first_word, expected_word}
-use Rattle.why.specs.State.{length_field, difference_of, other_phrase}
 use Rattle.why.specs.Portions.{first_of, Fed}
 use Rattle.why.proofs.Fed.{is-first, first-events}
 

@@ -34,10 +34,10 @@ use Rattle.why.specs.Each.{each_from}
 use Rattle.why.specs.State.{word_count, is_held, held_phrase, owed_most, does_owe, owed_phrase}
 use Rattle.why.specs.Portions.{behind, Fed}
 use Rattle.why.specs.Report.{Given, plain, event_phrase, last_step, done_event, is_shown, stands_phrase, reached, state_on, steps_on}
-use Rattle.why.specs.Report.{verdict_on, end_on, walk_on, not_fit_on, fit_opening_on, fit_on, last_found_on, last_on, behind_on, remaining_at, remaining}
-use Rattle.why.specs.Said.{go_to, behind_step, open_said, events_said, next_held, state_said, next_owed, owed_said, outcome_said, why_said, verdict_said}
+use Rattle.why.specs.Report.{verdict_on, end_on, walk_on, not_fit_on, fit_opening_on, fit_on, last_found_on, last_on, behind_on, remaining_at, remaining, remaining_if}
+use Rattle.why.specs.Said.{go_to, behind_step, open_said, started_in, events_said, next_held, state_said, next_owed, owed_said, outcome_said, why_said, verdict_said}
 use Rattle.why.specs.Said.{end_said, walk_said, not_fit_said, fit_opening_said, fit_said, last_found_said, last_said, fault_said}
-use Rattle.why.specs.Said.{Going, ReachedAt, Reached, StepsFrom, StepsTo, about, Tells}
+use Rattle.why.specs.Said.{Going, ReachedAt, Reached, ReachedIf, StepsFrom, StepsTo, about, Tells}
 use Rattle.why.proofs.Nexts.{each_turn, each_over, each_all, each_none}
 use Rattle.why.proofs.Order.{done-most, done-later, done-last}
 
@@ -226,15 +226,15 @@ module _ (g : Given) (state : List ℕ) (c : Cursor) where
   at_part : (p : Part) → c.part ≡ p → remaining g c ≡ remaining_at g p c.step c.item
   at_part p at = ap (λ (q : Part). remaining_at g q c.step c.item) at
 
-  pub end-tells : c.part ≡ part.End → Tells g c (end_said g.found c) state
+  pub end-tells : c.part ≡ part.End → Tells g c (end_said g.found) state
   end-tells at = record { one_more = at_part part.End at; reached = refl }
 
   -- a list of phrases that one call begins and leaves the rest of
   record Begins (l : List Phrase) (r : Said) : Type 0 where
-    one_more : l ≡ r.phrase ∷ remaining g r.cursor
-    reached : Reached g state r.cursor
+    one_more : l ≡ r.phrase ∷ remaining_if g r.cursor
+    reached : ReachedIf g state r.cursor
 
-  begins : (r : Said) → Reached g state r.cursor → Begins (r.phrase ∷ remaining g r.cursor) r
+  begins : (r : Said) → ReachedIf g state r.cursor → Begins (r.phrase ∷ remaining_if g r.cursor) r
   begins r h = record { one_more = refl; reached = h }
 
   either : (b : Bool) {l m : List Phrase} {r s : Said} → Begins l r → Begins m s → Begins (cond b l m) (cond b r s)
@@ -246,8 +246,8 @@ module _ (g : Given) (state : List ℕ) (c : Cursor) where
   either-found None some none = none
   either-found (Some x) some none = some x
 
-  end_begins : Begins (end_on g.found) (end_said g.found c)
-  end_begins = begins (end_said g.found c) refl
+  end_begins : Begins (end_on g.found) (end_said g.found)
+  end_begins = begins (end_said g.found) refl
 
   module _ (check : Verdict) (expected : Phrase) (is : g.found.last ≡ back.NotFit check expected) where
     not-fit-begins : (p : LastPart) → Begins (not_fit_on g check expected p) (not_fit_said g.found check expected c p)
@@ -324,7 +324,7 @@ module _ (t : Telling) (first : List ℕ) (c : Cursor) (state : List ℕ) where
       })
   steps-tell step.Open at reached r state' portion portion' (e, ran, feeds) =
       let (going, (within, before)) = subst (ReachedAt it state c) at reached in
-      rw e (opens-on it state c going within r.cursor.started state' (feeds first going.fed (fed-most it state c going)) at)
+      rw e (opens-on it state c going within (started_in r) state' (feeds first going.fed (fed-most it state c going)) at)
   steps-tell step.Events at reached r state' portion portion' (e, (same, _)) =
       let (going, (within, all)) = subst (ReachedAt it state c) at reached in
       rw (e, same) (events-tell it state c going within all at)

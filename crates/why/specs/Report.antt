@@ -1,6 +1,6 @@
 -- What menuwhy tells, phrase by phrase: the steps, how the log ended, how the last state stands to it. `xOn` is all that is told from x on.
 -- Assumes nothing.
-use Rattle.std.specs.Prelude.{Bool, true, false, ◌&&◌, ◌||◌, cond, List, [], ◌∷◌, ℕ, zero, suc, ◌+◌, ◌-◌, ◌/◌, min, eqb, ltb, length}
+use Rattle.std.specs.Prelude.{Bool, true, false, ◌&&◌, ◌||◌, cond, List, [], ◌∷◌, ℕ, zero, suc, ◌+◌, ◌-◌, ◌/◌, min, eqb, ltb, length, Option, Some, None}
 use Rattle.std.specs.Option.{is_none, option_map_or}
 use Rattle.model.specs.declared.event.Event.{Event}
 use Rattle.model.specs.declared.event.Event.TheVariants as event
@@ -268,7 +268,11 @@ module _ (g : Given) where
   remaining_at (part.Last p) k i = last_on p
   remaining_at (part.Fault p) k i = fault_on p
   remaining_at part.End k i = end_on g.found
-  remaining_at part.Over k i = []
 
   abbrev pub remaining : Cursor → List Phrase
   remaining c = remaining_at c.part c.step c.item
+
+  -- and from where it goes on, if it does
+  abbrev pub remaining_if : Option Cursor → List Phrase
+  remaining_if None = []
+  remaining_if (Some c) = remaining c

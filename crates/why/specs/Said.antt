@@ -1,7 +1,7 @@
 -- What one call tells and where it goes on, by the bytes that it is lent (`xSaid`); and the statement of the crate: whatever is still to be told
 -- begins with that phrase (`Tells`), from wherever the telling stands (`Reached`).
 -- Assumes nothing.
-use Rattle.std.specs.Prelude.{◌≡◌, Bool, true, false, cond, List, ◌∷◌, ℕ, ◌+◌, ◌-◌, ◌≤◌, eqb, ltb, Option}
+use Rattle.std.specs.Prelude.{◌≡◌, Bool, false, cond, List, ◌∷◌, ℕ, ◌+◌, ◌-◌, ◌≤◌, eqb, ltb, Option, Some, None}
 use Rattle.std.specs.Option.{is_none, option_map_or}
 use Rattle.std.specs.Borrow.{Bor}
 use Rattle.runs.specs.declared.told.WalkTold.{WalkTold}
@@ -36,10 +36,11 @@ use Rattle.why.specs.Each.{next_from}
 use Rattle.why.specs.State.{word_count, is_held, held_phrase, owed_most, does_owe, owed_phrase}
 use Rattle.why.specs.Portions.{Ran, Fed, FeedsTo, Feeds}
 use Rattle.why.specs.Report.{Given, plain, event_phrase, last_step, done_event, opening_phrase, is_shown, stands_phrase, is_good, expected_of}
-use Rattle.why.specs.Report.{fault_opening, meaning, no_way_phrase, remaining, first_event}
+use Rattle.why.specs.Report.{fault_opening, meaning, no_way_phrase, remaining, remaining_if, first_event}
 
+-- a phrase, behind which the telling goes on
 abbrev pub said : Phrase → Cursor → Said
-said p c = record { phrase = p; cursor = c }
+said p c = record { phrase = p; cursor = Some c }
 
 -- WHERE TO GO ON: another part, the next item of this one, or a step
 
@@ -66,6 +67,10 @@ abbrev pub open_said : List ℕ → Found → Cursor → Bool → Said
 open_said log found c started =
     said (opening_phrase c.step (first_event log c.step))
     (record { part = part.Step step.Events; step = c.step; item = first_event log c.step; fed = done_event log found c.step; started = started })
+
+-- whether a start has happened in the step in which the telling goes on
+abbrev pub started_in : Said → Bool
+started_in r = option_map_or (λ c. c.started) r.cursor false
 
 unfoldable pub events_said : List ℕ → List ℕ → List ℕ → Found → Wish → Cursor → Said
 events_said net log state found wish c =
@@ -125,8 +130,8 @@ verdict_said net log state found c verdict.Behind = behind_said found c
 
 -- THE LAST LINE
 
-abbrev pub end_said : Found → Cursor → Said
-end_said found c = said (plain (cond (is_good found) accepted_end_word refused_end_word)) (go_to c part.Over)
+abbrev pub end_said : Found → Said
+end_said found = record { phrase = plain (cond (is_good found) accepted_end_word refused_end_word); cursor = None }
 
 -- THE LAST STATE
 
@@ -141,7 +146,7 @@ abbrev pub not_fit_said : Found → Verdict → Phrase → Cursor → LastPart �
 not_fit_said found check expected c last.Opening = said (plain last_refused_word) (go_to c (part.Last last.Check))
 not_fit_said found check expected c last.Check = said (meaning check.number check.index) (go_to c (part.Last last.Expected))
 not_fit_said found check expected c last.Expected = said expected (go_to c part.End)
-not_fit_said found check expected c _ = end_said found c
+not_fit_said found check expected c _ = end_said found
 
 -- a state of the net: the log leads to it, or to another, or was refused
 unfoldable pub fit_opening_said : Found → LastFit → Cursor → Said
@@ -157,11 +162,11 @@ fit_said log found fit c last.Walk = walk_said fit.walk c
 fit_said log found fit c last.Event = said (event_phrase log fit.walk.index) (go_to c (part.Last last.Why))
 fit_said log found fit c last.Why = said (plain (back_why_word + fit.walk.number)) (go_to c (part.Last last.NoWay))
 fit_said log found fit c last.NoWay = said (no_way_phrase fit.walk) (go_to c part.End)
-fit_said log found fit c last.Front = option_map_or (λ front. said front (go_to c part.End)) fit.front (end_said found c)
-fit_said log found fit c _ = end_said found c
+fit_said log found fit c last.Front = option_map_or (λ front. said front (go_to c part.End)) fit.front (end_said found)
+fit_said log found fit c _ = end_said found
 
 abbrev pub last_found_said : List ℕ → Found → LastFound → Cursor → LastPart → Said
-last_found_said log found back.NotGiven c p = end_said found c
+last_found_said log found back.NotGiven c p = end_said found
 last_found_said log found (back.NotFit check expected) c p = not_fit_said found check expected c p
 last_found_said log found (back.Fit fit) c p = fit_said log found fit c p
 
@@ -227,21 +232,13 @@ ReachedAt g state c (part.Verdict p) = Going g state c × (c.fed ≡ g.found.tol
 ReachedAt g state c (part.Last p) = NothingAsked
 ReachedAt g state c (part.Fault p) = NothingAsked
 ReachedAt g state c part.End = NothingAsked
-ReachedAt g state c part.Over = NothingAsked
 
 abbrev pub Reached : Given → List ℕ → Cursor → Type 0
 Reached g state c = ReachedAt g state c c.part
 
-abbrev pub over_at : Part → Bool
-over_at (part.Step p) = false
-over_at (part.Verdict p) = false
-over_at (part.Last p) = false
-over_at (part.Fault p) = false
-over_at part.End = false
-over_at part.Over = true
-
-abbrev pub is_over : Cursor → Bool
-is_over c = over_at c.part
+abbrev pub ReachedIf : Given → List ℕ → Option Cursor → Type 0
+ReachedIf g state None = NothingAsked
+ReachedIf g state (Some c) = Reached g state c
 
 -- what a step needs, and what it comes to: only its opening feeds
 abbrev pub StepsFrom : Telling → List ℕ → Cursor → StepPart → Type 0
@@ -257,9 +254,9 @@ Kept state portion state' portion' = (state' ≡ state) × (portion' ≡ portion
 abbrev pub StepsTo : Telling → List ℕ → List ℕ → Cursor → StepPart → Said → List ℕ → List ℕ → Type 0
 StepsTo t state portion c step.Earlier r state' portion' = (r ≡ earlier_said c) × Kept state portion state' portion'
 StepsTo t state portion c step.Open r state' portion' =
-    (r ≡ open_said t.log.now t.found c r.cursor.started)
-    × Ran t.net.now t.log.now state c.fed (done_event t.log.now t.found c.step) c.started portion state' portion' r.cursor.started
-    × Feeds t.net.now t.log.now state c.fed (done_event t.log.now t.found c.step) c.started state' r.cursor.started
+    (r ≡ open_said t.log.now t.found c (started_in r))
+    × Ran t.net.now t.log.now state c.fed (done_event t.log.now t.found c.step) c.started portion state' portion' (started_in r)
+    × Feeds t.net.now t.log.now state c.fed (done_event t.log.now t.found c.step) c.started state' (started_in r)
 StepsTo t state portion c step.Events r state' portion' =
     (r ≡ events_said t.net.now t.log.now state t.found t.wish c) × Kept state portion state' portion'
 StepsTo t state portion c step.State r state' portion' = (r ≡ state_said state t.found c) × Kept state portion state' portion'
@@ -271,8 +268,7 @@ GoesOn t state portion c (part.Verdict p) r state' portion' =
     (r ≡ verdict_said t.net.now t.log.now state t.found c p) × Kept state portion state' portion'
 GoesOn t state portion c (part.Last p) r state' portion' = (r ≡ last_said t.log.now t.found c p) × Kept state portion state' portion'
 GoesOn t state portion c (part.Fault p) r state' portion' = (r ≡ fault_said t.net.now t.log.now t.found c p) × Kept state portion state' portion'
-GoesOn t state portion c part.End r state' portion' = (r ≡ end_said t.found c) × Kept state portion state' portion'
-GoesOn t state portion c part.Over r state' portion' = (r ≡ end_said t.found c) × Kept state portion state' portion'
+GoesOn t state portion c part.End r state' portion' = (r ≡ end_said t.found) × Kept state portion state' portion'
 
 -- what a telling is about, where this is the net's initial state
 abbrev pub about : Telling → List ℕ → Given
@@ -280,8 +276,8 @@ about t first = record { net = t.net.now; log = t.log.now; first = first; found 
 
 -- one phrase more is told, and the rest is still to be told
 pub record Tells (g : Given) (c : Cursor) (r : Said) (state' : List ℕ) : Type 0 where
-  pub one_more : remaining g c ≡ r.phrase ∷ remaining g r.cursor
-  pub reached : Reached g state' r.cursor
+  pub one_more : remaining g c ≡ r.phrase ∷ remaining_if g r.cursor
+  pub reached : ReachedIf g state' r.cursor
 
 -- whatever initial state the telling is about
 abbrev pub TellsOn : Telling → Cursor → List ℕ → Said → List ℕ → Type 0

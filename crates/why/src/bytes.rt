@@ -25,9 +25,5 @@ pub fn word_of(s: &[u8], at: usize) -> usize
 pub fn length_field(s: &[u8]) -> usize
     ensures { result ≡ length_field s.now }
 {
-    if s.len() < 5 {
-        0
-    } else {
-        words::read32(s, 1)
-    }
+    if s.len() < 5 { 0 } else { words::read32(s, 1) }
 }

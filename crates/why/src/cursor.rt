@@ -1,6 +1,6 @@
 // How far the telling has come. Every call of `telling::next` tells one phrase and moves on.
 ghost use Rattle.std.specs.Prelude.{◌≡◌};
-ghost use Rattle.why.specs.Said.{said, go_to, at_item, opens, is_over};
+ghost use Rattle.why.specs.Said.{said, go_to, at_item, opens};
 
 use phrases::phrase::Phrase;
 
@@ -52,8 +52,8 @@ pub enum Part {
     Verdict(VerdictPart),
     Last(LastPart),
     Fault(FaultPart),
+    // The last line.
     End,
-    Over,
 }
 
 // The part, the step and the item within it that are to come; how many events have been fed, and whether a start has happened in the step of the
@@ -67,21 +67,14 @@ pub struct Cursor {
     pub started: bool,
 }
 
-// A phrase, and where to go on.
+// A phrase, and where to go on, if more is left to be told.
 #[derive(Clone, Copy)]
 pub struct Said {
     pub phrase: Phrase,
-    pub cursor: Cursor,
+    pub cursor: Option<Cursor>,
 }
 
 impl Cursor {
-    // Nothing is left to be told.
-    pub fn is_over(self) -> bool
-        ensures { result ≡ is_over self }
-    {
-        matches!(self.part, Part::Over)
-    }
-
     // The front of another part.
     pub(crate) fn go_to(self, part: Part) -> Cursor
         ensures { result ≡ go_to self part }
@@ -116,9 +109,16 @@ impl Cursor {
     pub(crate) fn says(self, phrase: Phrase, part: Part) -> Said
         ensures { result ≡ said phrase (go_to self part) }
     {
+        self.go_to(part).behind(phrase)
+    }
+
+    // A phrase, behind which the telling goes on here.
+    pub(crate) fn behind(self, phrase: Phrase) -> Said
+        ensures { result ≡ said phrase self }
+    {
         Said {
             phrase,
-            cursor: self.go_to(part),
+            cursor: Some(self),
         }
     }
 }

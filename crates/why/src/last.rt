@@ -31,10 +31,7 @@ fn walk_back(walk: WalkTold, cursor: Cursor) -> Said
     ensures { result ≡ walk_said walk cursor }
 {
     if walk.number == 0 {
-        cursor.says(
-            Phrase::plain(book::WALK_ENDS),
-            Part::Last(LastPart::Front),
-        )
+        cursor.says(Phrase::plain(book::WALK_ENDS), Part::Last(LastPart::Front))
     } else {
         cursor.says(
             Phrase::one(book::WALK_STOPS, walk.index),
@@ -57,15 +54,18 @@ impl Telling<'_> {
     }
 
     // The last line.
-    pub(crate) fn end(&self, cursor: Cursor) -> Said
-        ensures { result ≡ end_said self.now.found cursor }
+    pub(crate) fn end(&self) -> Said
+        ensures { result ≡ end_said self.now.found }
     {
         let word = if self.is_good() {
             book::ACCEPTED_END
         } else {
             book::REFUSED_END
         };
-        cursor.says(Phrase::plain(word), Part::Over)
+        Said {
+            phrase: Phrase::plain(word),
+            cursor: None,
+        }
     }
 
     // It is no state of the net. (The other parts are of one that is.)
@@ -82,7 +82,7 @@ impl Telling<'_> {
                 Part::Last(LastPart::Expected),
             ),
             LastPart::Expected => cursor.says(expected, Part::End),
-            _ => self.end(cursor),
+            _ => self.end(),
         }
     }
 
@@ -97,10 +97,7 @@ impl Telling<'_> {
                 Phrase::plain(book::LAST_OTHER),
                 Part::Last(LastPart::Other),
             ),
-            (_, None) => cursor.says(
-                Phrase::plain(book::LAST_BEFORE),
-                Part::Last(LastPart::Walk),
-            ),
+            (_, None) => cursor.says(Phrase::plain(book::LAST_BEFORE), Part::Last(LastPart::Walk)),
             (_, Some(_)) => walk_back(fit.walk, cursor),
         }
     }
@@ -128,9 +125,9 @@ impl Telling<'_> {
             LastPart::NoWay => cursor.says(no_way(walk), Part::End),
             LastPart::Front => match fit.front {
                 Some(front) => cursor.says(front, Part::End),
-                None => self.end(cursor),
+                None => self.end(),
             },
-            _ => self.end(cursor),
+            _ => self.end(),
         }
     }
 
@@ -138,7 +135,7 @@ impl Telling<'_> {
         ensures { result ≡ last_said self.now.log.now self.now.found cursor part }
     {
         match self.found.last {
-            LastFound::NotGiven => self.end(cursor),
+            LastFound::NotGiven => self.end(),
             LastFound::NotFit(check, expected) => self.not_fit(check, expected, cursor, part),
             LastFound::Fit(fit) => self.fit(fit, cursor, part),
         }

@@ -1,15 +1,14 @@
 // The telling, phrase by phrase: what is found out first, where it begins, and what comes next.
-ghost use Rattle.std.specs.Prelude.{◌≡◌, false, ◌≤◌, length};
+ghost use Rattle.std.specs.Prelude.{◌≡◌, ◌≤◌, length};
 ghost use Rattle.std.specs.Option.{option_copied_mut};
 ghost use Rattle.replay.specs.Replayed.{longest_state};
 ghost use Rattle.why.specs.Found.{found_of, found_state, left_behind, last_left};
 ghost use Rattle.why.specs.Said.{telling, about, begun, Reached};
-ghost use Rattle.why.specs.Said.{from_step, beginning, is_over, StepsFrom, StepsTo, GoesOn, Somewhere, TellsOn};
+ghost use Rattle.why.specs.Said.{from_step, beginning, StepsFrom, StepsTo, GoesOn, Somewhere, TellsOn};
 
 use crate::cursor::{Cursor, FaultPart, Part, Said, StepPart};
-use crate::found;
 use crate::found::{Found, LastFound, Wish};
-use crate::words as book;
+use crate::{found, words as book};
 use engine::calls;
 use phrases::phrase::Phrase;
 use replay::input;
@@ -112,10 +111,9 @@ impl Telling<'_> {
         ensures portion_len_unchanged { length portion.new ≡ length portion.old }
     {
         match part {
-            StepPart::Earlier => Said {
-                phrase: Phrase::one(book::EARLIER, cursor.step),
-                cursor: cursor.opens(cursor.step),
-            },
+            StepPart::Earlier => cursor
+                .opens(cursor.step)
+                .behind(Phrase::one(book::EARLIER, cursor.step)),
             StepPart::Open => self.open(state, portion, cursor),
             StepPart::Events => self.events(state, cursor),
             StepPart::State => self.holds(state, cursor),
@@ -125,7 +123,6 @@ impl Telling<'_> {
     // The next phrase.
     pub fn next(&self, state: &mut [u8], portion: &mut [u8], cursor: Cursor) -> Said
         requires somewhere { Somewhere self.now cursor state.old }
-        requires cursor_value { is_over cursor ≡ false }
         requires log_in_bounds { length self.now.log.now ≤ length portion.old }
         ensures goes_on { GoesOn self.now state.old portion.old cursor cursor.part result state.new portion.new }
         ensures tells_on { TellsOn self.now cursor state.old result state.new }
@@ -136,7 +133,7 @@ impl Telling<'_> {
             Part::Verdict(part) => self.verdict(state, cursor, part),
             Part::Last(part) => self.last(cursor, part),
             Part::Fault(part) => self.fault(cursor, part),
-            Part::End | Part::Over => self.end(cursor),
+            Part::End => self.end(),
         }
     }
 }

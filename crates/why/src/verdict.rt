@@ -68,10 +68,7 @@ impl Telling<'_> {
         let owed = calls::owed(self.net, state);
         let next = owing::next_owed(owed.starts.word, owed.ends.word, cursor.item);
         if let Some(i) = next {
-            return Said {
-                phrase: owing::owed_phrase(i),
-                cursor: cursor.at_item(i + 1),
-            };
+            return cursor.at_item(i + 1).behind(owing::owed_phrase(i));
         }
         let no_more = Phrase::plain(book::OWED_END);
         if self.found.told.number == 0 {
@@ -85,7 +82,11 @@ impl Telling<'_> {
     fn behind(&self, cursor: Cursor) -> Said
         ensures { result ≡ behind_said self.now.found cursor }
     {
-        let count = self.found.events.saturating_sub(self.found.told.index).saturating_sub(1);
+        let count = self
+            .found
+            .events
+            .saturating_sub(self.found.told.index)
+            .saturating_sub(1);
         cursor.says(
             Phrase::one(book::BEHIND, count),
             Part::Last(LastPart::Opening),

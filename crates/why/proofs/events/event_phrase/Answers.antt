@@ -4,13 +4,10 @@ use mathlib.Core.List.{List}
 use Prim.Native.Nat.{ℕ, ◌+◌, ◌/◌, ◌≤◌}
 use native.Mathlib.Omega.{arith}
 use lib.ListN.{length, get_or-eq_default}
-use Rattle.model.specs.declared.event.Event.{Event}
-use Rattle.model.specs.Event.{event_of}
 use Rattle.forms.specs.Word.{byte}
 use Rattle.forms.specs.Places.{event_at}
-use Rattle.phrases.specs.declared.phrase.Phrase.{Phrase}
 use Rattle.why.specs.Words.{tick_word}
-use Rattle.why.specs.Report.{plain, say_event, event_phrase}
+use Rattle.why.specs.Report.{plain, event_phrase}
 use Rattle.why.proofs.events.event_phrase.Goals as goal
 
 module _ (log : List ℕ) (i : ℕ) where

@@ -11,8 +11,8 @@ use Rattle.why.proofs.telling.begin.Goals.{in-None, in-Some}
 pub returns-clause-last_after : goal.returns-clause-last_after
 returns-clause-last_after c =
     elim c.match-last.branch [
-      in-None w ↦ rw w.in-None.is refl
-    | in-Some w ↦ rw (w.in-Some.is, w.last-is) (ap Some w.look_back-last.ensures.last_after)
+      | in-None w ↦ rw w.in-None.is refl
+      | in-Some w ↦ rw (w.in-Some.is, w.last-is) (ap Some w.look_back-last.ensures.last_after)
     ]
 
 pub returns-clause-reached : goal.returns-clause-reached
