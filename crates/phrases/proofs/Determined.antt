@@ -8,7 +8,6 @@ use Rattle.model.proofs.Determined.{Determined, LeavesOne}
 use Rattle.text.proofs.Determined.{spelt-ends, spelt-stands}
 use Rattle.phrases.specs.declared.arguments.Asked.{Asked}
 use Rattle.phrases.specs.Arguments.{nothing as nothing_asked}
-use Rattle.phrases.specs.declared.phrase.Phrase.{Phrase}
 use Rattle.phrases.specs.Wording.{Meaning, meaning, called, behind_name, Numbered, Meant, Piece, Worded}
 use Rattle.phrases.specs.Wording.Worded.{none, more}
 use Rattle.phrases.proofs.arguments.AskedDefault.default.Reads as nothing
@@ -21,20 +20,10 @@ use Rattle.phrases.proofs.names.next_bad.Reads as next-bad
 use Rattle.phrases.proofs.names.next_bad.Kinds as next-bad-kinds
 use Rattle.phrases.proofs.names.name_of.Reads as name_of_call
 use Rattle.phrases.proofs.names.name_of.Kinds as name-of-kinds
-use Rattle.phrases.proofs.phrase.Phrase.plain.Reads as plain
-use Rattle.phrases.proofs.phrase.Phrase.plain.Kinds as plain-kinds
-use Rattle.phrases.proofs.phrase.Phrase.one.Reads as one
-use Rattle.phrases.proofs.phrase.Phrase.one.Kinds as one-kinds
-use Rattle.phrases.proofs.phrase.Phrase.two.Reads as two
-use Rattle.phrases.proofs.phrase.Phrase.two.Kinds as two-kinds
-use Rattle.phrases.proofs.phrase.Phrase.three.Reads as three
-use Rattle.phrases.proofs.phrase.Phrase.three.Kinds as three-kinds
-use Rattle.phrases.proofs.phrase.Phrase.four.Reads as four
-use Rattle.phrases.proofs.phrase.Phrase.four.Kinds as four-kinds
 use Rattle.phrases.proofs.wording.put.Reads as put
 use Rattle.phrases.proofs.wording.put.Kinds as put-kinds
 
--- ARGUMENTS, NAMES AND PHRASES: equations
+-- ARGUMENTS AND NAMES: equations
 
 -- the derived `default` is what nothing asks for
 pub nothing-is : (κs : _) (args : _) (x : Asked) (s : _) → nothing.Learnt κs args x s → x ≡ nothing_asked
@@ -55,21 +44,6 @@ next-bad-determined κs args x y s s' p q = p.0 ∙ sym q.0
 pub name-of-determined : Determined 1 name-of-kinds.ps name-of-kinds.r name_of_call.Learnt
 name-of-determined κs args x y s s' p q = p.0 ∙ sym q.0
 
-pub plain-determined : Determined 0 plain-kinds.ps plain-kinds.r plain.Learnt
-plain-determined κs args x y s s' p q = p ∙ sym q
-
-pub one-determined : Determined 0 one-kinds.ps one-kinds.r one.Learnt
-one-determined κs args x y s s' p q = p ∙ sym q
-
-pub two-determined : Determined 0 two-kinds.ps two-kinds.r two.Learnt
-two-determined κs args x y s s' p q = p ∙ sym q
-
-pub three-determined : Determined 0 three-kinds.ps three-kinds.r three.Learnt
-three-determined κs args x y s s' p q = p ∙ sym q
-
-pub four-determined : Determined 0 four-kinds.ps four-kinds.r four.Learnt
-four-determined κs args x y s s' p q = p ∙ sym q
-
 -- WORDS: a number with a name, a piece, and pieces one behind the other stand in one way
 
 numbered-once : (before : List ℕ) (at n : ℕ) (name after after' : List ℕ) (end end' : ℕ)
@@ -86,24 +60,24 @@ meant-once : (before : List ℕ) (at b : ℕ) (m : Meaning) (after after' : List
 meant-once before at b Meaning.itself after after' end end' p q = (p.0 ∙ sym q.0, p.1 ∙ sym q.1)
 meant-once before at b (Meaning.number n name) after after' end end' p q = numbered-once before at n name after after' end end' p q
 
-no-piece : {p : Phrase} {names b b' : List ℕ} {at end : ℕ} → Worded p names b at [] b' end → (b ≡ b') × (at ≡ end)
+no-piece : {ns names b b' : List ℕ} {at end : ℕ} → Worded ns names b at [] b' end → (b ≡ b') × (at ≡ end)
 no-piece none = (refl, refl)
 
-first_piece : {p : Phrase} {names b b' : List ℕ} {at w end : ℕ} {ws : List ℕ} → Worded p names b at (w ∷ ws) b' end
-    → (b₁ : List ℕ) × (at₁ : ℕ) × Piece p names b at w b₁ at₁ × Worded p names b₁ at₁ ws b' end
+first_piece : {ns names b b' : List ℕ} {at w end : ℕ} {ws : List ℕ} → Worded ns names b at (w ∷ ws) b' end
+    → (b₁ : List ℕ) × (at₁ : ℕ) × Piece ns names b at w b₁ at₁ × Worded ns names b₁ at₁ ws b' end
 first_piece (more {b₁} {at₁} s f) = (b₁, at₁, s, f)
 
-pub worded-once : (ws : List ℕ) (p : Phrase) (names before : List ℕ) (at : ℕ) (after after' : List ℕ) (end end' : ℕ)
-    → Worded p names before at ws after end → Worded p names before at ws after' end' → (after ≡ after') × (end ≡ end')
-worded-once [] p names before at after after' end end' f g =
+pub worded-once : (ws ns names before : List ℕ) (at : ℕ) (after after' : List ℕ) (end end' : ℕ)
+    → Worded ns names before at ws after end → Worded ns names before at ws after' end' → (after ≡ after') × (end ≡ end')
+worded-once [] ns names before at after after' end end' f g =
     let (a, b) = no-piece f in
     let (c, d) = no-piece g in
     (sym a ∙ c, sym b ∙ d)
-worded-once (w ∷ ws) p names before at after after' end end' f g =
+worded-once (w ∷ ws) ns names before at after after' end end' f g =
     let (b₁, at₁, s, rest) = first_piece f in
     let (b₂, at₂, s', rest') = first_piece g in
-    let (stands, ends) = meant-once before at w (meaning p names w) b₂ b₁ at₂ at₁ s'.meant s.meant in
-    worded-once ws p names b₁ at₁ after after' end end' rest (rw (stands, ends) at rest')
+    let (stands, ends) = meant-once before at w (meaning ns names w) b₂ b₁ at₂ at₁ s'.meant s.meant in
+    worded-once ws ns names b₁ at₁ after after' end end' rest (rw (stands, ends) at rest')
 
 pub put-determined : Determined 3 put-kinds.ps put-kinds.r put.Learnt
 put-determined κs args x y s s' p q = (worded-once _ _ _ _ _ s.0.now s'.0.now x y p.1 q.1).1

@@ -9,7 +9,6 @@ use lib.Seq.{paste}
 use Rattle.io.specs.Digits.{last_digits, IsDigitCount}
 use Rattle.text.specs.Lines.{Spelt}
 use Rattle.phrases.specs.Names.{named, thing_of, thing_in, is_bad, is_due, next_bad_in, next_bad, name_in, name_by}
-use Rattle.phrases.specs.Phrase.{phrase}
 use Rattle.phrases.specs.Wording.{meaning, called, behind_name, Piece}
 use Rattle.phrases.specs.Wording.Worded.{none, more}
 use Rattle.phrases.specs.Edges.{file_of_names, ArgumentEdges, NameEdges, WordEdges}
@@ -41,20 +40,20 @@ figure n h = (omega arith, omega arith, λ l. absurd (omega arith))
 abbrev named-first : List ℕ
 named-first = 55 ∷ 32 ∷ 97 ∷ 100 ∷ 100 ∷ []
 
-transition-piece : Piece (phrase 0 7 12 0 0) file_of_names (replicate 10 0) 0 84 (named-first ++ replicate 5 0) 5
+transition-piece : Piece (7 ∷ 12 ∷ 0 ∷ 0 ∷ []) file_of_names (replicate 10 0) 0 84 (named-first ++ replicate 5 0) 5
 unfolding named thing_of thing_in name_in name_by meaning called behind_name
 transition-piece =
     record { meant = record { spelt = _; last = 1; number = spell (replicate 10 0) 0 7 1 (figure 7 (omega arith)); stands = refl; ends = refl } }
 
-colon-piece : Piece (phrase 0 7 12 0 0) file_of_names (named-first ++ replicate 5 0) 5 58 (named-first ++ (58 ∷ replicate 4 0)) 6
+colon-piece : Piece (7 ∷ 12 ∷ 0 ∷ 0 ∷ []) file_of_names (named-first ++ replicate 5 0) 5 58 (named-first ++ (58 ∷ replicate 4 0)) 6
 unfolding meaning
 colon-piece = record { meant = (refl, refl) }
 
-blank-piece : Piece (phrase 0 7 12 0 0) file_of_names (named-first ++ (58 ∷ replicate 4 0)) 6 32 (named-first ++ (58 ∷ 32 ∷ replicate 3 0)) 7
+blank-piece : Piece (7 ∷ 12 ∷ 0 ∷ 0 ∷ []) file_of_names (named-first ++ (58 ∷ replicate 4 0)) 6 32 (named-first ++ (58 ∷ 32 ∷ replicate 3 0)) 7
 unfolding meaning
 blank-piece = record { meant = (refl, refl) }
 
-second-piece : Piece (phrase 0 7 12 0 0) file_of_names (named-first ++ (58 ∷ 32 ∷ replicate 3 0)) 7 66 (named-first ++ (58 ∷ 32 ∷ 49 ∷ 50 ∷ 0 ∷ [])) 9
+second-piece : Piece (7 ∷ 12 ∷ 0 ∷ 0 ∷ []) file_of_names (named-first ++ (58 ∷ 32 ∷ replicate 3 0)) 7 66 (named-first ++ (58 ∷ 32 ∷ 49 ∷ 50 ∷ 0 ∷ [])) 9
 unfolding meaning called behind_name
 second-piece = record {
   meant = record {
@@ -66,7 +65,7 @@ second-piece = record {
   };
 }
 
-unnamed-piece : Piece (phrase 0 6 0 0 0) file_of_names (replicate 2 0) 0 80 (54 ∷ 0 ∷ []) 1
+unnamed-piece : Piece (6 ∷ 0 ∷ 0 ∷ 0 ∷ []) file_of_names (replicate 2 0) 0 80 (54 ∷ 0 ∷ []) 1
 unfolding named thing_of thing_in name_in name_by meaning called behind_name
 unnamed-piece =
     record { meant = record { spelt = _; last = 1; number = spell (replicate 2 0) 0 6 1 (figure 6 (omega arith)); stands = refl; ends = refl } }

@@ -9,7 +9,6 @@ use Rattle.phrases.specs.declared.arguments.NamesFile.TheVariants as names_file
 use Rattle.phrases.specs.declared.names.Kind.TheVariants as kind
 use Rattle.phrases.specs.Arguments.{all_word, names_word, asked, nothing, takes, completed}
 use Rattle.phrases.specs.Names.{part, place_word, is_bad, next_bad, name_of}
-use Rattle.phrases.specs.Phrase.{phrase}
 use Rattle.phrases.specs.Wording.{Worded}
 
 -- ARGUMENTS
@@ -84,7 +83,7 @@ one_piece = 80 ∷ []
 
 pub record WordEdges : Type 0 where
   -- `7 add: 12`, and one byte as before
-  pub both : Worded (phrase 0 7 12 0 0) file_of_names (replicate 10 0) 0 two_pieces
+  pub both : Worded (7 ∷ 12 ∷ 0 ∷ 0 ∷ []) file_of_names (replicate 10 0) 0 two_pieces
       (55 ∷ 32 ∷ 97 ∷ 100 ∷ 100 ∷ 58 ∷ 32 ∷ 49 ∷ 50 ∷ 0 ∷ []) 9
   -- `6`: place 6 has no name
-  pub unnamed : Worded (phrase 0 6 0 0 0) file_of_names (replicate 2 0) 0 one_piece (54 ∷ 0 ∷ []) 1
+  pub unnamed : Worded (6 ∷ 0 ∷ 0 ∷ 0 ∷ []) file_of_names (replicate 2 0) 0 one_piece (54 ∷ 0 ∷ []) 1

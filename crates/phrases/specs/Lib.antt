@@ -1,6 +1,5 @@
 pub mod Arguments
 pub mod Bytes
 pub mod Names
-pub mod Phrase
 pub mod Wording
 pub mod Edges

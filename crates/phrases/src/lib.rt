@@ -1,8 +1,6 @@
-// Phrases: what a program says, as a number for the words and the numbers that stand in them; the file of names; and a phrase put into a lent
-// buffer by its words.
+// What a program is asked by the words behind its name; the file of names; and words put into a lent buffer, with numbers and names in them.
 #![tactic(auto)]
 
 pub mod arguments;
 pub mod names;
-pub mod phrase;
 pub mod wording;

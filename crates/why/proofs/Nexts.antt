@@ -7,7 +7,7 @@ use Prim.Native.Nat.{ℕ, zero, suc, ◌+◌, ◌-◌, ◌<◌, ◌≤◌}
 use native.Mathlib.Numerals.{add-one}
 use native.Mathlib.Omega.{arith}
 use Rattle.std.proofs.Common.{Some, None}
-use Rattle.phrases.specs.declared.phrase.Phrase.{Phrase}
+use Rattle.why.specs.declared.phrase.Phrase.{Phrase}
 use Rattle.why.specs.Each.{next_from, each_from}
 
 one_less : (top i : ℕ) → i < top → top - i ≡ suc (top - (i + 1))

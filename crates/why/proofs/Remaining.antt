@@ -11,7 +11,8 @@ use Rattle.std.proofs.Common.{Option, Some, None}
 use Rattle.std.specs.Option.{is_none, option_map_or}
 use Rattle.engine.specs.declared.answers.Verdict.{Verdict}
 use Rattle.engine.specs.Calls.{owed_told, run_told}
-use Rattle.phrases.specs.declared.phrase.Phrase.{Phrase}
+use Rattle.why.specs.declared.phrase.Phrase.{Phrase}
+use Rattle.why.specs.declared.phrase.Word.TheVariants as words
 use Rattle.runs.specs.declared.told.RunTold.{RunTold}
 use Rattle.why.specs.declared.found.LastFit.{LastFit}
 use Rattle.why.specs.declared.found.LastFound.{LastFound}
@@ -29,7 +30,6 @@ use Rattle.why.specs.declared.cursor.Part.{Part}
 use Rattle.why.specs.declared.cursor.Part.TheVariants as part
 use Rattle.why.specs.declared.cursor.Cursor.{Cursor}
 use Rattle.why.specs.declared.cursor.Said.{Said}
-use Rattle.why.specs.Words.{others_word, owed_end_word}
 use Rattle.why.specs.Each.{each_from}
 use Rattle.why.specs.State.{word_count, is_held, held_phrase, owed_most, does_owe, owed_phrase}
 use Rattle.why.specs.Portions.{behind, Fed}
@@ -136,14 +136,14 @@ module _ (g : Given) (state : List ℕ) (c : Cursor) (going : Going g state c) w
     unfolding state_said
     state-tells at =
         let top = word_count state in
-        let shows : (i : ℕ) → remaining_at g c.part c.step i ≡ each_from (is_held state) (held_phrase state) (word_count state - i) i (plain others_word ∷ rest) =
+        let shows : (i : ℕ) → remaining_at g c.part c.step i ≡ each_from (is_held state) (held_phrase state) (word_count state - i) i (plain words.Others ∷ rest) =
         λ i. ap (λ (p : Part). remaining_at g p c.step i) at
-        ∙ ap (λ (s : List ℕ). each_from (is_held s) (held_phrase s) (word_count s - i) i (plain others_word ∷ rest)) (sym (state_is all)) in
+        ∙ ap (λ (s : List ℕ). each_from (is_held s) (held_phrase s) (word_count s - i) i (plain words.Others ∷ rest)) (sym (state_is all)) in
         by-found (next_held state c.item)
         (λ e.
         rw e (record {
           one_more = shows c.item ∙ each_over (is_held state) (held_phrase state) top _ c.item e
-              ∙ ap (λ (l : List Phrase). plain others_word ∷ l) (sym behind-rest);
+              ∙ ap (λ (l : List Phrase). plain words.Others ∷ l) (sym behind-rest);
           reached = behind-reached;
         }))
         (λ j e.
@@ -184,14 +184,14 @@ module _ (g : Given) (state : List ℕ) (c : Cursor) (going : Going g state c) w
     unfolding owed_said
     owed-tells at =
         let owes = does_owe (owed_told g.net state).starts.word (owed_told g.net state).ends.word in
-        let behind-it = plain owed_end_word ∷ cond (eqb g.found.told.number 0) (last_on g last.Opening) (behind_on g) in
+        let behind-it = plain words.OwedEnd ∷ cond (eqb g.found.told.number 0) (last_on g last.Opening) (behind_on g) in
         let shows : (i : ℕ) → remaining_at g c.part c.step i
         ≡ each_from (does_owe (owed_told g.net state).starts.word (owed_told g.net state).ends.word) owed_phrase (owed_most - i) i
-        (plain owed_end_word ∷ cond (eqb g.found.told.number 0) (last_on g last.Opening) (behind_on g)) =
+        (plain words.OwedEnd ∷ cond (eqb g.found.told.number 0) (last_on g last.Opening) (behind_on g)) =
         λ i. ap (λ (p : Part). remaining_at g p c.step i) at
         ∙ ap (λ (s : List ℕ). each_from (does_owe (owed_told g.net s).starts.word (owed_told g.net s).ends.word) owed_phrase (owed_most - i) i
-        (plain owed_end_word ∷ cond (eqb g.found.told.number 0) (last_on g last.Opening) (behind_on g))) (sym end_is) in
-        let picked : Bool → List Phrase = λ b. plain owed_end_word ∷ cond b (last_on g last.Opening) (behind_on g) in
+        (plain words.OwedEnd ∷ cond (eqb g.found.told.number 0) (last_on g last.Opening) (behind_on g))) (sym end_is) in
+        let picked : Bool → List Phrase = λ b. plain words.OwedEnd ∷ cond b (last_on g last.Opening) (behind_on g) in
         by-found (next_owed g.net state c.item)
         (λ e.
         let over = shows c.item ∙ each_over owes owed_phrase owed_most behind-it c.item e in

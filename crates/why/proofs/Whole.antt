@@ -17,9 +17,9 @@ use Rattle.engine.specs.Calls.{run_told, run_left}
 use Rattle.engine.specs.Promised.{Fit}
 use Rattle.engine.proofs.Faults.{examines}
 use Rattle.engine.proofs.Promised.{fit-meets}
-use Rattle.phrases.specs.Phrase.{phrase}
+use Rattle.why.specs.declared.phrase.Word.TheVariants as words
+use Rattle.why.specs.Phrase.{phrase}
 use Rattle.why.specs.declared.cursor.Cursor.{Cursor}
-use Rattle.why.specs.Words.{mark_word, run_word}
 use Rattle.why.specs.State.{held, content_at, held_phrase}
 use Rattle.why.specs.Portions.{first_of, behind}
 use Rattle.why.specs.Report.{Given, last_step}
@@ -49,12 +49,12 @@ module _ (N : Net) (s : List ℕ) (is : IsState N s) where
   abbrev D : ℕ
   D = width N
 
-  marks : (p : ℕ) → p < N.places → held_phrase s p ≡ phrase mark_word p (tokens (state_of N s) p) 0 0
+  marks : (p : ℕ) → p < N.places → held_phrase s p ≡ phrase words.Mark p (tokens (state_of N s) p) 0 0
   unfolding held_phrase held content_at
   marks p h = rw (is.head.places_are, lt-ltb p N.places h, ← tokens-are N s p h) refl
 
   counts : (t j : ℕ) → t < N.transitions → j < width N
-      → held_phrase s (N.places + (t * width N + j)) ≡ phrase run_word t j (count (state_of N s) t j) 0
+      → held_phrase s (N.places + (t * width N + j)) ≡ phrase words.Run t j (count (state_of N s) t j) 0
   unfolding held_phrase held content_at
   counts t j h l =
       let cell = t * D + j in

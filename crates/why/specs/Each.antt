@@ -2,7 +2,7 @@
 -- Assumes nothing.
 use Rattle.std.specs.Prelude.{Bool, cond, List, ◌∷◌, ℕ, zero, suc, Option}
 use Rattle.std.specs.List.{find, range_with_len}
-use Rattle.phrases.specs.declared.phrase.Phrase.{Phrase}
+use Rattle.why.specs.declared.phrase.Phrase.{Phrase}
 
 -- the lowest of the n numbers from i on at which the test passes
 unfoldable pub next_from : (ℕ → Bool) → ℕ → ℕ → Option ℕ

@@ -1,6 +1,6 @@
 pub mod Portions
 pub mod Each
-pub mod Words
+pub mod Phrase
 pub mod State
 pub mod Found
 pub mod Report

@@ -10,8 +10,10 @@ use Rattle.forms.specs.Places.{event_at, row_at, net_length}
 use Rattle.runs.specs.declared.told.WalkTold.{WalkTold}
 use Rattle.engine.specs.declared.answers.Verdict.{Verdict}
 use Rattle.engine.specs.Calls.{step_told, owed_told}
-use Rattle.phrases.specs.declared.phrase.Phrase.{Phrase}
-use Rattle.phrases.specs.Phrase.{phrase}
+use Rattle.why.specs.declared.phrase.Word.{Word}
+use Rattle.why.specs.declared.phrase.Phrase.{Phrase}
+use Rattle.why.specs.declared.phrase.Word.TheVariants as words
+use Rattle.why.specs.Phrase.{phrase}
 use Rattle.why.specs.declared.found.LastFit.{LastFit}
 use Rattle.why.specs.declared.found.LastFound.{LastFound}
 use Rattle.why.specs.declared.found.LastFound.TheVariants as back
@@ -28,10 +30,6 @@ use Rattle.why.specs.declared.cursor.FaultPart.TheVariants as fault
 use Rattle.why.specs.declared.cursor.Part.{Part}
 use Rattle.why.specs.declared.cursor.Part.TheVariants as part
 use Rattle.why.specs.declared.cursor.Cursor.{Cursor}
-use Rattle.why.specs.Words.{first_word, step_word, start_word, end_word, tick_word, no_event_word, earlier_word, stands_word, others_word}
-use Rattle.why.specs.Words.{accepted_word, refused_word, lacks_word, behind_word, owed_end_word, last_same_word, last_other_word}
-use Rattle.why.specs.Words.{walk_stops_word, no_way_word, no_way_started_word, walk_ends_word, last_before_word}
-use Rattle.why.specs.Words.{last_refused_word, net_refused_word, log_refused_word, accepted_end_word, refused_end_word, expected_word, why_word, back_why_word}
 use Rattle.why.specs.Each.{each_from}
 use Rattle.why.specs.State.{length_field, word_count, is_held, held_phrase, owed_most, does_owe, owed_phrase}
 use Rattle.why.specs.Portions.{behind}
@@ -45,16 +43,16 @@ pub record Given : Type 0 where
   pub wish : Wish
 
 -- words with no number in them
-abbrev pub plain : ℕ → Phrase
+abbrev pub plain : Word → Phrase
 plain word = phrase word 0 0 0 0
 
 -- AN EVENT
 
 abbrev pub say_event : Event → ℕ → ℕ → Phrase
-say_event event.Tick first second = plain tick_word
-say_event (event.Start t) first second = phrase start_word t 0 0 0
-say_event (event.End t age) first second = phrase end_word t age.0 0 0
-say_event event.Malformed first second = phrase no_event_word first second 0 0
+say_event event.Tick first second = plain words.Tick
+say_event (event.Start t) first second = phrase words.Start t 0 0 0
+say_event (event.End t age) first second = phrase words.End t age.0 0 0
+say_event event.Malformed first second = phrase words.NoEvent first second 0 0
 
 unfoldable pub event_phrase : List ℕ → ℕ → Phrase
 event_phrase log i =
@@ -79,14 +77,14 @@ done_event log found k = cond (ltb k (last_step found)) (min (end_event log k) f
 
 -- step 0, or a later one behind its tick, with the number of its first event
 unfoldable pub opening_phrase : ℕ → ℕ → Phrase
-opening_phrase k first = cond (eqb k 0) (plain first_word) (phrase step_word k first 0 0)
+opening_phrase k first = cond (eqb k 0) (plain words.First) (phrase words.Step k first 0 0)
 
 -- what the state behind a step holds is shown where it was asked for, and behind the last
 abbrev pub is_shown : Wish → Found → ℕ → Bool
 is_shown wish found k = wish.states || eqb k (last_step found)
 
 abbrev pub stands_phrase : List ℕ → List ℕ → Phrase
-stands_phrase net state = plain (stands_word + (owed_told net state).standing)
+stands_phrase net state = plain (words.Stands (owed_told net state).standing)
 
 module _ (g : Given) where
   abbrev pub reached : ℕ → List ℕ
@@ -95,7 +93,7 @@ module _ (g : Given) where
   -- what the state behind step k holds, from word i on
   abbrev pub state_on : ℕ → ℕ → List Phrase → List Phrase
   state_on k i rest =
-      each_from (is_held (reached k)) (held_phrase (reached k)) (word_count (reached k) - i) i (plain others_word ∷ rest)
+      each_from (is_held (reached k)) (held_phrase (reached k)) (word_count (reached k) - i) i (plain words.Others ∷ rest)
 
   -- the events of step k from event i on, and how the state behind them stands
   abbrev pub events_on : ℕ → ℕ → List Phrase → List Phrase
@@ -120,7 +118,7 @@ abbrev pub is_good : Found → Bool
 is_good found = eqb found.told.number 0 && is_led_to found.last
 
 abbrev pub end_on : Found → List Phrase
-end_on found = plain (cond (is_good found) accepted_end_word refused_end_word) ∷ []
+end_on found = plain (cond (is_good found) words.AcceptedEnd words.RefusedEnd) ∷ []
 
 -- WHAT WAS EXPECTED
 
@@ -133,24 +131,24 @@ row_of net t = row_at (places_of net) (min t 255)
 
 unfoldable pub expected_of : List ℕ → List ℕ → ℕ → ℕ → Phrase
 expected_of net log number t =
-    cond (eqb number 10) (phrase (expected_word + number) (length log) (length_field log) (byte log 0) 0)
-    (cond (eqb number 1) (phrase (expected_word + number) (length net) (length_field net) (byte net 0) 0)
-    (cond (eqb number 2) (phrase (expected_word + number) (places_of net) (byte net 6) 0 0)
-    (cond (eqb number 3) (phrase (expected_word + number) (net_length (places_of net) (byte net 6)) (places_of net) (byte net 6) (length net))
-    (phrase (expected_word + number) t (byte net (row_of net t)) (byte net (row_of net t + 1)) 0))))
+    cond (eqb number 10) (phrase (words.Expected number) (length log) (length_field log) (byte log 0) 0)
+    (cond (eqb number 1) (phrase (words.Expected number) (length net) (length_field net) (byte net 0) 0)
+    (cond (eqb number 2) (phrase (words.Expected number) (places_of net) (byte net 6) 0 0)
+    (cond (eqb number 3) (phrase (words.Expected number) (net_length (places_of net) (byte net 6)) (places_of net) (byte net 6) (length net))
+    (phrase (words.Expected number) t (byte net (row_of net t)) (byte net (row_of net t + 1)) 0))))
 
 -- A NET OR A LOG THAT IS REFUSED
 
 abbrev pub fault_opening : Found → Phrase
-fault_opening found = plain (cond (eqb found.told.number 10) log_refused_word net_refused_word)
+fault_opening found = plain (cond (eqb found.told.number 10) words.LogRefused words.NetRefused)
 
 -- a number's meaning, for a transition
 abbrev pub meaning : ℕ → ℕ → Phrase
-meaning number t = phrase (why_word + number) t 0 0 0
+meaning number t = phrase (words.Why number) t 0 0 0
 
 -- no lawful state leads to the last state by this event and those behind it; for 28, not with the start that stands before it in its step
 abbrev pub no_way_phrase : WalkTold → Phrase
-no_way_phrase walk = phrase (cond (eqb walk.number 28) no_way_started_word no_way_word) walk.index 0 0 0
+no_way_phrase walk = phrase (cond (eqb walk.number 28) words.NoWayStarted words.NoWay) walk.index 0 0 0
 
 module _ (g : Given) where
   abbrev pub fault_on : FaultPart → List Phrase
@@ -164,7 +162,7 @@ module _ (g : Given) where
 
   -- of one that is no state of the net
   abbrev pub not_fit_on : Verdict → Phrase → LastPart → List Phrase
-  not_fit_on check expected last.Opening = plain last_refused_word ∷ meaning check.number check.index ∷ expected ∷ end_on g.found
+  not_fit_on check expected last.Opening = plain words.LastRefused ∷ meaning check.number check.index ∷ expected ∷ end_on g.found
   not_fit_on check expected last.Check = meaning check.number check.index ∷ expected ∷ end_on g.found
   not_fit_on check expected last.Expected = expected ∷ end_on g.found
   not_fit_on check expected _ = end_on g.found
@@ -177,7 +175,7 @@ module _ (g : Given) where
   no_way_on fit = no_way_phrase fit.walk ∷ end_on g.found
 
   abbrev pub walk_why_on : LastFit → List Phrase
-  walk_why_on fit = plain (back_why_word + fit.walk.number) ∷ no_way_on fit
+  walk_why_on fit = plain (words.BackWhy fit.walk.number) ∷ no_way_on fit
 
   abbrev pub walk_event_on : LastFit → List Phrase
   walk_event_on fit = event_phrase g.log fit.walk.index ∷ walk_why_on fit
@@ -186,8 +184,8 @@ module _ (g : Given) where
   abbrev pub walk_on : LastFit → List Phrase
   walk_on fit =
       cond (eqb fit.walk.number 0)
-      (plain walk_ends_word ∷ front_on fit)
-      (phrase walk_stops_word fit.walk.index 0 0 0 ∷ walk_event_on fit)
+      (plain words.WalkEnds ∷ front_on fit)
+      (phrase words.WalkStops fit.walk.index 0 0 0 ∷ walk_event_on fit)
 
   abbrev pub other_on : LastFit → List Phrase
   other_on fit = option_map_or (λ other. other ∷ walk_on fit) fit.other (walk_on fit)
@@ -196,8 +194,8 @@ module _ (g : Given) where
   abbrev pub fit_opening_on : LastFit → List Phrase
   fit_opening_on fit =
       cond (eqb g.found.told.number 0)
-      (cond (is_none fit.other) (plain last_same_word ∷ end_on g.found) (plain last_other_word ∷ other_on fit))
-      (cond (is_none fit.other) (plain last_before_word ∷ walk_on fit) (walk_on fit))
+      (cond (is_none fit.other) (plain words.LastSame ∷ end_on g.found) (plain words.LastOther ∷ other_on fit))
+      (cond (is_none fit.other) (plain words.LastBefore ∷ walk_on fit) (walk_on fit))
 
   abbrev pub fit_on : LastFit → LastPart → List Phrase
   fit_on fit last.Opening = fit_opening_on fit
@@ -222,7 +220,7 @@ module _ (g : Given) where
 
   -- how many events stand behind the refused one
   abbrev pub behind_on : List Phrase
-  behind_on = phrase behind_word (g.found.events - g.found.told.index - 1) 0 0 0 ∷ last_on last.Opening
+  behind_on = phrase words.Behind (g.found.events - g.found.told.index - 1) 0 0 0 ∷ last_on last.Opening
 
   -- what the state behind the last event that was done owes, from bit i of the two words on
   abbrev pub owed_on : ℕ → List Phrase
@@ -230,11 +228,11 @@ module _ (g : Given) where
       each_from
       (does_owe (owed_told g.net (reached g (last_step g.found))).starts.word (owed_told g.net (reached g (last_step g.found))).ends.word)
       owed_phrase (owed_most - i) i
-      (plain owed_end_word ∷ cond (eqb g.found.told.number 0) (last_on last.Opening) behind_on)
+      (plain words.OwedEnd ∷ cond (eqb g.found.told.number 0) (last_on last.Opening) behind_on)
 
   -- for 13 the place that is short
   abbrev pub lacks_on : List Phrase
-  lacks_on = phrase lacks_word g.found.told.short.place g.found.told.short.lacks 0 0 ∷ owed_on 0
+  lacks_on = phrase words.Lacks g.found.told.short.place g.found.told.short.lacks 0 0 ∷ owed_on 0
 
   abbrev pub why_on : List Phrase
   why_on = meaning g.found.told.number 0 ∷ cond (eqb g.found.told.number 13) lacks_on (owed_on 0)
@@ -245,8 +243,8 @@ module _ (g : Given) where
   abbrev pub verdict_on : VerdictPart → ℕ → List Phrase
   verdict_on verdict.Outcome i =
       cond (eqb g.found.told.number 0)
-      (phrase accepted_word g.found.events g.found.told.ticks 0 0 ∷ owed_on 0)
-      (phrase refused_word g.found.told.index g.found.told.ticks 0 0 ∷ event_on)
+      (phrase words.Accepted g.found.events g.found.told.ticks 0 0 ∷ owed_on 0)
+      (phrase words.Refused g.found.told.index g.found.told.ticks 0 0 ∷ event_on)
   verdict_on verdict.Event i = event_on
   verdict_on verdict.Why i = why_on
   verdict_on verdict.Lacks i = lacks_on
@@ -256,7 +254,7 @@ module _ (g : Given) where
   -- ALL OF IT
 
   abbrev pub step_on : StepPart → ℕ → ℕ → List Phrase
-  step_on step.Earlier k i = phrase earlier_word k 0 0 0 ∷ steps_on g (suc (last_step g.found) - k) k (verdict_on verdict.Outcome 0)
+  step_on step.Earlier k i = phrase words.Earlier k 0 0 0 ∷ steps_on g (suc (last_step g.found) - k) k (verdict_on verdict.Outcome 0)
   step_on step.Open k i = steps_on g (suc (last_step g.found) - k) k (verdict_on verdict.Outcome 0)
   step_on step.Events k i = events_on g k i (steps_on g (last_step g.found - k) (suc k) (verdict_on verdict.Outcome 0))
   step_on step.State k i = state_on g k i (steps_on g (last_step g.found - k) (suc k) (verdict_on verdict.Outcome 0))

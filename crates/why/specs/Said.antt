@@ -7,8 +7,9 @@ use Rattle.std.specs.Borrow.{Bor}
 use Rattle.runs.specs.declared.told.WalkTold.{WalkTold}
 use Rattle.engine.specs.declared.answers.Verdict.{Verdict}
 use Rattle.engine.specs.Calls.{owed_told, run_told}
-use Rattle.phrases.specs.declared.phrase.Phrase.{Phrase}
-use Rattle.phrases.specs.Phrase.{phrase}
+use Rattle.why.specs.declared.phrase.Phrase.{Phrase}
+use Rattle.why.specs.declared.phrase.Word.TheVariants as words
+use Rattle.why.specs.Phrase.{phrase}
 use Rattle.replay.specs.Replayed.{is_early}
 use Rattle.why.specs.declared.found.LastFit.{LastFit}
 use Rattle.why.specs.declared.found.LastFound.{LastFound}
@@ -29,9 +30,6 @@ use Rattle.why.specs.declared.cursor.Cursor.{Cursor}
 use Rattle.why.specs.declared.cursor.Said.{Said}
 use Rattle.why.specs.declared.telling.Telling.{Telling}
 use Rattle.why.specs.declared.telling.Begun.{Begun}
-use Rattle.why.specs.Words.{earlier_word, others_word, accepted_word, refused_word, lacks_word, behind_word, owed_end_word, last_same_word, last_other_word}
-use Rattle.why.specs.Words.{walk_stops_word, walk_ends_word, last_before_word}
-use Rattle.why.specs.Words.{last_refused_word, accepted_end_word, refused_end_word, back_why_word}
 use Rattle.why.specs.Each.{next_from}
 use Rattle.why.specs.State.{word_count, is_held, held_phrase, owed_most, does_owe, owed_phrase}
 use Rattle.why.specs.Portions.{Ran, Fed, FeedsTo, Feeds}
@@ -60,7 +58,7 @@ behind_step found c = cond (ltb c.step (last_step found)) (opens c (c.step + 1))
 -- A STEP
 
 abbrev pub earlier_said : Cursor → Said
-earlier_said c = said (phrase earlier_word c.step 0 0 0) (opens c c.step)
+earlier_said c = said (phrase words.Earlier c.step 0 0 0) (opens c c.step)
 
 -- its opening, once its events are fed
 abbrev pub open_said : List ℕ → Found → Cursor → Bool → Said
@@ -86,7 +84,7 @@ next_held state from = next_from (is_held state) (word_count state - from) from
 unfoldable pub state_said : List ℕ → Found → Cursor → Said
 state_said state found c =
     option_map_or (λ i. said (held_phrase state i) (at_item c (i + 1))) (next_held state c.item)
-    (said (plain others_word) (behind_step found c))
+    (said (plain words.Others) (behind_step found c))
 
 -- HOW THE LOG ENDED
 
@@ -97,14 +95,14 @@ unfoldable pub owed_said : List ℕ → List ℕ → Found → Cursor → Said
 owed_said net state found c =
     option_map_or (λ i. said (owed_phrase i) (at_item c (i + 1))) (next_owed net state c.item)
     (cond (eqb found.told.number 0)
-    (said (plain owed_end_word) (go_to c (part.Last last.Opening)))
-    (said (plain owed_end_word) (go_to c (part.Verdict verdict.Behind))))
+    (said (plain words.OwedEnd) (go_to c (part.Last last.Opening)))
+    (said (plain words.OwedEnd) (go_to c (part.Verdict verdict.Behind))))
 
 unfoldable pub outcome_said : Found → Cursor → Said
 outcome_said found c =
     cond (eqb found.told.number 0)
-    (said (phrase accepted_word found.events found.told.ticks 0 0) (go_to c (part.Verdict verdict.Owed)))
-    (said (phrase refused_word found.told.index found.told.ticks 0 0) (go_to c (part.Verdict verdict.Event)))
+    (said (phrase words.Accepted found.events found.told.ticks 0 0) (go_to c (part.Verdict verdict.Owed)))
+    (said (phrase words.Refused found.told.index found.told.ticks 0 0) (go_to c (part.Verdict verdict.Event)))
 
 unfoldable pub why_said : Found → Cursor → Said
 why_said found c =
@@ -114,11 +112,11 @@ why_said found c =
 
 abbrev pub lacks_said : Found → Cursor → Said
 lacks_said found c =
-    said (phrase lacks_word found.told.short.place found.told.short.lacks 0 0) (go_to c (part.Verdict verdict.Owed))
+    said (phrase words.Lacks found.told.short.place found.told.short.lacks 0 0) (go_to c (part.Verdict verdict.Owed))
 
 abbrev pub behind_said : Found → Cursor → Said
 behind_said found c =
-    said (phrase behind_word (found.events - found.told.index - 1) 0 0 0) (go_to c (part.Last last.Opening))
+    said (phrase words.Behind (found.events - found.told.index - 1) 0 0 0) (go_to c (part.Last last.Opening))
 
 abbrev pub verdict_said : List ℕ → List ℕ → List ℕ → Found → Cursor → VerdictPart → Said
 verdict_said net log state found c verdict.Outcome = outcome_said found c
@@ -131,19 +129,19 @@ verdict_said net log state found c verdict.Behind = behind_said found c
 -- THE LAST LINE
 
 abbrev pub end_said : Found → Said
-end_said found = record { phrase = plain (cond (is_good found) accepted_end_word refused_end_word); cursor = None }
+end_said found = record { phrase = plain (cond (is_good found) words.AcceptedEnd words.RefusedEnd); cursor = None }
 
 -- THE LAST STATE
 
 unfoldable pub walk_said : WalkTold → Cursor → Said
 walk_said walk c =
     cond (eqb walk.number 0)
-    (said (plain walk_ends_word) (go_to c (part.Last last.Front)))
-    (said (phrase walk_stops_word walk.index 0 0 0) (go_to c (part.Last last.Event)))
+    (said (plain words.WalkEnds) (go_to c (part.Last last.Front)))
+    (said (phrase words.WalkStops walk.index 0 0 0) (go_to c (part.Last last.Event)))
 
 -- no state of the net
 abbrev pub not_fit_said : Found → Verdict → Phrase → Cursor → LastPart → Said
-not_fit_said found check expected c last.Opening = said (plain last_refused_word) (go_to c (part.Last last.Check))
+not_fit_said found check expected c last.Opening = said (plain words.LastRefused) (go_to c (part.Last last.Check))
 not_fit_said found check expected c last.Check = said (meaning check.number check.index) (go_to c (part.Last last.Expected))
 not_fit_said found check expected c last.Expected = said expected (go_to c part.End)
 not_fit_said found check expected c _ = end_said found
@@ -152,15 +150,15 @@ not_fit_said found check expected c _ = end_said found
 unfoldable pub fit_opening_said : Found → LastFit → Cursor → Said
 fit_opening_said found fit c =
     cond (eqb found.told.number 0)
-    (cond (is_none fit.other) (said (plain last_same_word) (go_to c part.End)) (said (plain last_other_word) (go_to c (part.Last last.Other))))
-    (cond (is_none fit.other) (said (plain last_before_word) (go_to c (part.Last last.Walk))) (walk_said fit.walk c))
+    (cond (is_none fit.other) (said (plain words.LastSame) (go_to c part.End)) (said (plain words.LastOther) (go_to c (part.Last last.Other))))
+    (cond (is_none fit.other) (said (plain words.LastBefore) (go_to c (part.Last last.Walk))) (walk_said fit.walk c))
 
 abbrev pub fit_said : List ℕ → Found → LastFit → Cursor → LastPart → Said
 fit_said log found fit c last.Opening = fit_opening_said found fit c
 fit_said log found fit c last.Other = option_map_or (λ other. said other (go_to c (part.Last last.Walk))) fit.other (walk_said fit.walk c)
 fit_said log found fit c last.Walk = walk_said fit.walk c
 fit_said log found fit c last.Event = said (event_phrase log fit.walk.index) (go_to c (part.Last last.Why))
-fit_said log found fit c last.Why = said (plain (back_why_word + fit.walk.number)) (go_to c (part.Last last.NoWay))
+fit_said log found fit c last.Why = said (plain (words.BackWhy fit.walk.number)) (go_to c (part.Last last.NoWay))
 fit_said log found fit c last.NoWay = said (no_way_phrase fit.walk) (go_to c part.End)
 fit_said log found fit c last.Front = option_map_or (λ front. said front (go_to c part.End)) fit.front (end_said found)
 fit_said log found fit c _ = end_said found

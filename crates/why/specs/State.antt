@@ -4,13 +4,14 @@ use Rattle.std.specs.Prelude.{Bool, not, cond, List, Option, ℕ, ◌+◌, ◌-�
 use Rattle.std.specs.Option.{option_map}
 use Rattle.forms.specs.Word.{byte, word, word32}
 use Rattle.owed.specs.Bits.{bit_at}
-use Rattle.phrases.specs.declared.phrase.Phrase.{Phrase}
-use Rattle.phrases.specs.Phrase.{phrase}
+use Rattle.why.specs.declared.phrase.Word.{Word}
+use Rattle.why.specs.declared.phrase.Phrase.{Phrase}
+use Rattle.why.specs.declared.phrase.Word.TheVariants as words
+use Rattle.why.specs.Phrase.{phrase}
 use Rattle.why.specs.declared.state.Content.{Content}
 use Rattle.why.specs.declared.state.Content.TheVariants as content
 use Rattle.why.specs.declared.state.Difference.{Difference}
 use Rattle.why.specs.Each.{next_from}
-use Rattle.why.specs.Words.{mark_word, run_word, start_owed_word, end_owed_word}
 
 -- what the length field of a stored form says, and 0 where it is not whole
 unfoldable pub length_field : List ℕ → ℕ
@@ -37,8 +38,8 @@ content_at s i = cond (is_mark s i) (content.Marking i) (content.Count ((i - byt
 
 -- the phrase that says what word i holds
 abbrev pub holds_phrase : ℕ → Content → Phrase
-holds_phrase n (content.Marking p) = phrase mark_word p n 0 0
-holds_phrase n (content.Count t age) = phrase run_word t age n 0
+holds_phrase n (content.Marking p) = phrase words.Mark p n 0 0
+holds_phrase n (content.Count t age) = phrase words.Run t age n 0
 
 unfoldable pub held_phrase : List ℕ → ℕ → Phrase
 held_phrase s i = holds_phrase (held s i) (content_at s i)
@@ -54,15 +55,15 @@ unfoldable pub difference_of : List ℕ → List ℕ → Option Difference
 difference_of a b = option_map (λ i. record { at = i; here = held a i; there = held b i }) (first_other a b)
 
 -- said with words for a marking, or with words for a count
-abbrev pub tells_apart : ℕ → ℕ → ℕ → ℕ → Content → Phrase
-tells_apart marks runs here there (content.Marking p) = phrase marks p here there 0
-tells_apart marks runs here there (content.Count t age) = phrase runs t age here there
+abbrev pub tells_apart : Word → Word → ℕ → ℕ → Content → Phrase
+tells_apart at_place at_age here there (content.Marking p) = phrase at_place p here there 0
+tells_apart at_place at_age here there (content.Count t age) = phrase at_age t age here there
 
-unfoldable pub differs_phrase : ℕ → ℕ → List ℕ → Difference → Phrase
+unfoldable pub differs_phrase : Word → Word → List ℕ → Difference → Phrase
 differs_phrase marks runs s d = tells_apart marks runs d.here d.there (content_at s d.at)
 
 -- where one state differs from another, if it does
-abbrev pub other_phrase : ℕ → ℕ → List ℕ → List ℕ → Option Phrase
+abbrev pub other_phrase : Word → Word → List ℕ → List ℕ → Option Phrase
 other_phrase marks runs a b = option_map (differs_phrase marks runs a) (difference_of a b)
 
 -- WHAT IS OWED: the starts, by the bits of one word, and behind them the ends, by those of another
@@ -74,4 +75,4 @@ unfoldable pub does_owe : ℕ → ℕ → ℕ → Bool
 does_owe starts ends i = cond (ltb i 64) (bit_at starts i) (bit_at ends (i - 64))
 
 unfoldable pub owed_phrase : ℕ → Phrase
-owed_phrase i = cond (ltb i 64) (phrase start_owed_word i 0 0 0) (phrase end_owed_word (i - 64) 0 0 0)
+owed_phrase i = cond (ltb i 64) (phrase words.StartOwed i 0 0 0) (phrase words.EndOwed (i - 64) 0 0 0)

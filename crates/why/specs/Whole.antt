@@ -5,9 +5,9 @@ use Rattle.model.specs.Net.{Net, width, tokens, count}
 use Rattle.forms.specs.Stored.{state_of}
 use Rattle.forms.specs.States.{IsState}
 use Rattle.engine.specs.Calls.{run_left}
-use Rattle.phrases.specs.Phrase.{phrase}
+use Rattle.why.specs.declared.phrase.Word.TheVariants as words
+use Rattle.why.specs.Phrase.{phrase}
 use Rattle.why.specs.declared.cursor.Cursor.{Cursor}
-use Rattle.why.specs.Words.{mark_word, run_word}
 use Rattle.why.specs.State.{word_count, held_phrase}
 use Rattle.why.specs.Said.{Going}
 use Rattle.why.specs.Report.{Given, reached, last_step}
@@ -19,9 +19,9 @@ ShowsLeft g = reached g (last_step g.found) ≡ run_left g.net g.first g.log fal
 -- each word of a state of N, as it is told: the marking of a place, or the count of a transition at an age
 pub record TellsWords (N : Net) (s : List ℕ) : Type 0 where
   pub how-many : word_count s ≡ N.places + N.transitions * width N
-  pub marks_are : (p : ℕ) → p < N.places → held_phrase s p ≡ phrase mark_word p (tokens (state_of N s) p) 0 0
+  pub marks_are : (p : ℕ) → p < N.places → held_phrase s p ≡ phrase words.Mark p (tokens (state_of N s) p) 0 0
   pub counts_are : (t j : ℕ) → t < N.transitions → j < width N
-      → held_phrase s (N.places + (t * width N + j)) ≡ phrase run_word t j (count (state_of N s) t j) 0
+      → held_phrase s (N.places + (t * width N + j)) ≡ phrase words.Run t j (count (state_of N s) t j) 0
 
 pub record Whole : Type 0 where
   pub shows_left : (g : Given) (state : List ℕ) (c : Cursor) → Going g state c → ShowsLeft g

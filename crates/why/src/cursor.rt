@@ -2,7 +2,7 @@
 ghost use Rattle.std.specs.Prelude.{◌≡◌};
 ghost use Rattle.why.specs.Said.{said, go_to, at_item, opens};
 
-use phrases::phrase::Phrase;
+use crate::phrase::Phrase;
 
 // Of a step: that earlier ones are not shown; its opening; its events, and how the state behind it stands; what that state holds.
 #[derive(Clone, Copy)]

@@ -2,19 +2,19 @@
 ghost use Rattle.std.specs.Prelude.{◌≡◌};
 ghost use Rattle.why.specs.Report.{say_event, event_phrase};
 
-use crate::{bytes, words as book};
+use crate::bytes;
+use crate::phrase::{Phrase, Word};
 use forms::places;
 use model::event::Event;
-use phrases::phrase::Phrase;
 
 fn say(event: Event, first: usize, second: usize) -> Phrase
     ensures { result ≡ say_event event first second }
 {
     match event {
-        Event::Tick => Phrase::plain(book::TICK),
-        Event::Start(t) => Phrase::one(book::START, t),
-        Event::End(t, age) => Phrase::two(book::END, t, usize::from(age.0)),
-        Event::Malformed => Phrase::two(book::NO_EVENT, first, second),
+        Event::Tick => Phrase::new(Word::Tick, []),
+        Event::Start(t) => Phrase::new(Word::Start, [t]),
+        Event::End(t, age) => Phrase::new(Word::End, [t, usize::from(age.0)]),
+        Event::Malformed => Phrase::new(Word::NoEvent, [first, second]),
     }
 }
 
@@ -24,7 +24,7 @@ pub fn event_phrase(log: &[u8], i: usize) -> Phrase
     ensures { result ≡ event_phrase log.now i }
 {
     if log.len() / 2 <= i {
-        return Phrase::plain(book::TICK);
+        return Phrase::new(Word::Tick, []);
     }
     let at = places::EVENTS_AT + 2 * i;
     let first = bytes::byte_of(log, at);

@@ -1,16 +1,16 @@
 // A net or a log that is refused: its number, what that means, and what was expected.
 ghost use Rattle.std.specs.Prelude.{◌≡◌, ◌+◌, ◌<◌, length};
 ghost use Rattle.forms.specs.Word.{byte};
-ghost use Rattle.phrases.specs.Phrase.{phrase};
+ghost use Rattle.why.specs.Phrase.{phrase};
 ghost use Rattle.why.specs.State.{length_field};
 ghost use Rattle.why.specs.Report.{row_of, expected_of, fault_opening};
 ghost use Rattle.why.specs.Said.{fault_said};
 
 use crate::cursor::{Cursor, FaultPart, Part, Said};
+use crate::phrase::{Phrase, Word};
 use crate::telling::Telling;
-use crate::{bytes, verdict, words as book};
+use crate::{bytes, verdict};
 use forms::places;
-use phrases::phrase::Phrase;
 
 // The number of a log that is refused.
 const LOG_FRAME: u8 = 10;
@@ -23,14 +23,16 @@ fn row_of(net: &[u8], t: usize) -> usize
 }
 
 // A form's length, what its length field says, and its version.
-fn frame(word: usize, form: &[u8]) -> Phrase
+fn frame(word: Word, form: &[u8]) -> Phrase
     ensures { result ≡ phrase word (length form.now) (length_field form.now) (byte form.now 0) 0 }
 {
-    Phrase::three(
+    Phrase::new(
         word,
-        form.len(),
-        bytes::length_field(form),
-        bytes::byte_of(form, 0),
+        [
+            form.len(),
+            bytes::length_field(form),
+            bytes::byte_of(form, 0),
+        ],
     )
 }
 
@@ -42,25 +44,27 @@ impl Telling<'_> {
         let net = self.net;
         let t = self.found.told.index;
         let number = self.found.told.number;
-        let word = book::EXPECTED + usize::from(number);
+        let word = Word::Expected(number);
         let places = bytes::byte_of(net, places::PLACES_AT);
         let transitions = bytes::byte_of(net, places::TRANSITIONS_AT);
         match number {
             LOG_FRAME => frame(word, self.log),
             1 => frame(word, net),
-            2 => Phrase::two(word, places, transitions),
-            3 => Phrase::four(
+            2 => Phrase::new(word, [places, transitions]),
+            3 => Phrase::new(
                 word,
-                places::row_at(places, transitions),
-                places,
-                transitions,
-                net.len(),
+                [
+                    places::row_at(places, transitions),
+                    places,
+                    transitions,
+                    net.len(),
+                ],
             ),
             _ => {
                 let row = row_of(net, t);
                 let sfd = bytes::byte_of(net, row);
                 let lfd = bytes::byte_of(net, row + 1);
-                Phrase::three(word, t, sfd, lfd)
+                Phrase::new(word, [t, sfd, lfd])
             }
         }
     }
@@ -69,9 +73,9 @@ impl Telling<'_> {
         ensures { result ≡ fault_opening self.now.found }
     {
         if self.found.told.number == LOG_FRAME {
-            Phrase::plain(book::LOG_REFUSED)
+            Phrase::new(Word::LogRefused, [])
         } else {
-            Phrase::plain(book::NET_REFUSED)
+            Phrase::new(Word::NetRefused, [])
         }
     }
 

@@ -5,10 +5,10 @@ ghost use Rattle.why.specs.Said.{end_said, walk_said, not_fit_said, fit_opening_
 
 use crate::cursor::{Cursor, LastPart, Part, Said};
 use crate::found::{LastFit, LastFound};
+use crate::phrase::{Phrase, Word};
 use crate::telling::Telling;
-use crate::{events, verdict, words as book};
+use crate::{events, verdict};
 use engine::answers::Verdict;
-use phrases::phrase::Phrase;
 use runs::told::WalkTold;
 
 // The number that is told for a start before the event, and so for events in front of it.
@@ -19,9 +19,9 @@ fn no_way(walk: WalkTold) -> Phrase
     ensures { result ≡ no_way_phrase walk }
 {
     if walk.number == BEHIND_A_START {
-        Phrase::one(book::NO_WAY_STARTED, walk.index)
+        Phrase::new(Word::NoWayStarted, [walk.index])
     } else {
-        Phrase::one(book::NO_WAY, walk.index)
+        Phrase::new(Word::NoWay, [walk.index])
     }
 }
 
@@ -31,10 +31,10 @@ fn walk_back(walk: WalkTold, cursor: Cursor) -> Said
     ensures { result ≡ walk_said walk cursor }
 {
     if walk.number == 0 {
-        cursor.says(Phrase::plain(book::WALK_ENDS), Part::Last(LastPart::Front))
+        cursor.says(Phrase::new(Word::WalkEnds, []), Part::Last(LastPart::Front))
     } else {
         cursor.says(
-            Phrase::one(book::WALK_STOPS, walk.index),
+            Phrase::new(Word::WalkStops, [walk.index]),
             Part::Last(LastPart::Event),
         )
     }
@@ -48,7 +48,7 @@ impl Telling<'_> {
         self.found.told.number == 0
             && match self.found.last {
                 LastFound::NotGiven => true,
-                LastFound::NotFit(_, _) => false,
+                LastFound::NotFit { .. } => false,
                 LastFound::Fit(fit) => fit.other.is_none(),
             }
     }
@@ -58,12 +58,12 @@ impl Telling<'_> {
         ensures { result ≡ end_said self.now.found }
     {
         let word = if self.is_good() {
-            book::ACCEPTED_END
+            Word::AcceptedEnd
         } else {
-            book::REFUSED_END
+            Word::RefusedEnd
         };
         Said {
-            phrase: Phrase::plain(word),
+            phrase: Phrase::new(word, []),
             cursor: None,
         }
     }
@@ -74,7 +74,7 @@ impl Telling<'_> {
     {
         match part {
             LastPart::Opening => cursor.says(
-                Phrase::plain(book::LAST_REFUSED),
+                Phrase::new(Word::LastRefused, []),
                 Part::Last(LastPart::Check),
             ),
             LastPart::Check => cursor.says(
@@ -92,12 +92,15 @@ impl Telling<'_> {
         ensures { result ≡ fit_opening_said self.now.found fit cursor }
     {
         match (self.found.told.number, fit.other) {
-            (0, None) => cursor.says(Phrase::plain(book::LAST_SAME), Part::End),
+            (0, None) => cursor.says(Phrase::new(Word::LastSame, []), Part::End),
             (0, Some(_)) => cursor.says(
-                Phrase::plain(book::LAST_OTHER),
+                Phrase::new(Word::LastOther, []),
                 Part::Last(LastPart::Other),
             ),
-            (_, None) => cursor.says(Phrase::plain(book::LAST_BEFORE), Part::Last(LastPart::Walk)),
+            (_, None) => cursor.says(
+                Phrase::new(Word::LastBefore, []),
+                Part::Last(LastPart::Walk),
+            ),
             (_, Some(_)) => walk_back(fit.walk, cursor),
         }
     }
@@ -119,7 +122,7 @@ impl Telling<'_> {
                 Part::Last(LastPart::Why),
             ),
             LastPart::Why => cursor.says(
-                Phrase::plain(book::BACK_WHY + usize::from(walk.number)),
+                Phrase::new(Word::BackWhy(walk.number), []),
                 Part::Last(LastPart::NoWay),
             ),
             LastPart::NoWay => cursor.says(no_way(walk), Part::End),
@@ -136,7 +139,7 @@ impl Telling<'_> {
     {
         match self.found.last {
             LastFound::NotGiven => self.end(),
-            LastFound::NotFit(check, expected) => self.not_fit(check, expected, cursor, part),
+            LastFound::NotFit { check, expected } => self.not_fit(check, expected, cursor, part),
             LastFound::Fit(fit) => self.fit(fit, cursor, part),
         }
     }

@@ -3,9 +3,8 @@ ghost use Rattle.std.specs.Prelude.{◌≡◌, ◌-◌, ◌<◌, IfSome};
 ghost use Rattle.why.specs.Each.{next_from};
 ghost use Rattle.why.specs.State.{owed_most, does_owe, owed_phrase};
 
-use crate::words as book;
+use crate::phrase::{Phrase, Word};
 use owed::bits;
-use phrases::phrase::Phrase;
 
 // 64 starts and 64 ends.
 pub const OWED_MOST: usize = 128;
@@ -36,8 +35,8 @@ pub fn owed_phrase(i: usize) -> Phrase
     ensures { result ≡ owed_phrase i }
 {
     if i < 64 {
-        Phrase::one(book::START_OWED, i)
+        Phrase::new(Word::StartOwed, [i])
     } else {
-        Phrase::one(book::END_OWED, i - 64)
+        Phrase::new(Word::EndOwed, [i - 64])
     }
 }

@@ -4,15 +4,15 @@ ghost use Rattle.std.specs.Prelude.{◌≡◌, ◌-◌, ◌<◌, IfSome};
 ghost use Rattle.why.specs.Each.{next_from};
 ghost use Rattle.why.specs.State.{word_count, held, is_held, content_at, held_phrase, first_other, difference_of, differs_phrase, other_phrase};
 
-use crate::{bytes, words as book};
+use crate::bytes;
+use crate::phrase::{Phrase, Word};
 use forms::places;
-use phrases::phrase::Phrase;
 
 // What a word of a state is: the marking of a place, or the count of a transition at an age.
 #[derive(Clone, Copy)]
 pub enum Content {
-    Marking(usize),
-    Count(usize, usize),
+    Marking { place: usize },
+    Count { transition: usize, age: usize },
 }
 
 // A word in which two states differ, and what it holds in the one and in the other.
@@ -79,9 +79,12 @@ fn content_at(state: &[u8], i: usize) -> Content
     let places = bytes::byte_of(state, places::PLACES_AT);
     let width = bytes::byte_of(state, places::WIDTH_AT).max(1);
     if i < places {
-        Content::Marking(i)
+        Content::Marking { place: i }
     } else {
-        Content::Count((i - places) / width, (i - places) % width)
+        Content::Count {
+            transition: (i - places) / width,
+            age: (i - places) % width,
+        }
     }
 }
 
@@ -93,24 +96,27 @@ pub fn held_phrase(state: &[u8], i: usize) -> Phrase
 {
     let tokens = held(state, i);
     match content_at(state, i) {
-        Content::Marking(p) => Phrase::two(book::MARK, p, tokens),
-        Content::Count(t, age) => Phrase::three(book::RUN, t, age, tokens),
+        Content::Marking { place } => Phrase::new(Word::Mark, [place, tokens]),
+        Content::Count { transition, age } => Phrase::new(Word::Run, [transition, age, tokens]),
     }
 }
 
 // A difference as a phrase, in words of a marking or in words of a count.
 #[tactic(auto, unfolding(crate::specs::State::differs_phrase))]
-fn differs_phrase(state: &[u8], marks: usize, runs: usize, found: Difference) -> Phrase
+fn differs_phrase(state: &[u8], marks: Word, runs: Word, found: Difference) -> Phrase
     ensures { result ≡ differs_phrase marks runs state.now found }
 {
     match content_at(state, found.at) {
-        Content::Marking(p) => Phrase::three(marks, p, found.here, found.there),
-        Content::Count(t, age) => Phrase::four(runs, t, age, found.here, found.there),
+        Content::Marking { place } => Phrase::new(marks, [place, found.here, found.there]),
+        Content::Count { transition, age } => Phrase::new(
+            runs,
+            [transition, age, found.here, found.there],
+        ),
     }
 }
 
 // Where a state differs from another, as a phrase.
-pub fn other_phrase(one: &[u8], other: &[u8], marks: usize, runs: usize) -> Option<Phrase>
+pub fn other_phrase(one: &[u8], other: &[u8], marks: Word, runs: Word) -> Option<Phrase>
     ensures { result ≡ other_phrase marks runs one.now other.now }
 {
     differ(one, other).map(|found| differs_phrase(one, marks, runs, found))

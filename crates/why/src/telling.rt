@@ -7,10 +7,10 @@ ghost use Rattle.why.specs.Said.{telling, about, begun, Reached};
 ghost use Rattle.why.specs.Said.{from_step, beginning, StepsFrom, StepsTo, GoesOn, Somewhere, TellsOn};
 
 use crate::cursor::{Cursor, FaultPart, Part, Said, StepPart};
+use crate::found;
 use crate::found::{Found, LastFound, Wish};
-use crate::{found, words as book};
+use crate::phrase::{Phrase, Word};
 use engine::calls;
-use phrases::phrase::Phrase;
 use replay::input;
 
 // What is told of: a net and a log, what was found out of them, and what is asked to be shown.
@@ -113,7 +113,7 @@ impl Telling<'_> {
         match part {
             StepPart::Earlier => cursor
                 .opens(cursor.step)
-                .behind(Phrase::one(book::EARLIER, cursor.step)),
+                .behind(Phrase::new(Word::Earlier, [cursor.step])),
             StepPart::Open => self.open(state, portion, cursor),
             StepPart::Events => self.events(state, cursor),
             StepPart::State => self.holds(state, cursor),

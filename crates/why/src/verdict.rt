@@ -4,10 +4,10 @@ ghost use Rattle.why.specs.Report.{meaning};
 ghost use Rattle.why.specs.Said.{outcome_said, why_said, lacks_said, owed_said, behind_said, verdict_said};
 
 use crate::cursor::{Cursor, LastPart, Part, Said, VerdictPart};
+use crate::phrase::{Phrase, Word};
 use crate::telling::Telling;
-use crate::{events, owing, words as book};
+use crate::{events, owing};
 use engine::calls;
-use phrases::phrase::Phrase;
 
 // The number that has a place to tell.
 const NOT_ENABLED: u8 = 13;
@@ -16,7 +16,7 @@ const NOT_ENABLED: u8 = 13;
 pub fn meaning(number: u8, t: usize) -> Phrase
     ensures { result ≡ meaning number t }
 {
-    Phrase::one(book::WHY + usize::from(number), t)
+    Phrase::new(Word::Why(number), [t])
 }
 
 impl Telling<'_> {
@@ -27,12 +27,12 @@ impl Telling<'_> {
         let told = self.found.told;
         if told.number == 0 {
             cursor.says(
-                Phrase::two(book::ACCEPTED, self.found.events, told.ticks),
+                Phrase::new(Word::Accepted, [self.found.events, told.ticks]),
                 Part::Verdict(VerdictPart::Owed),
             )
         } else {
             cursor.says(
-                Phrase::two(book::REFUSED, told.index, told.ticks),
+                Phrase::new(Word::Refused, [told.index, told.ticks]),
                 Part::Verdict(VerdictPart::Event),
             )
         }
@@ -55,7 +55,7 @@ impl Telling<'_> {
     {
         let short = self.found.told.short;
         cursor.says(
-            Phrase::two(book::LACKS, short.place as usize, short.lacks as usize),
+            Phrase::new(Word::Lacks, [short.place as usize, short.lacks as usize]),
             Part::Verdict(VerdictPart::Owed),
         )
     }
@@ -70,7 +70,7 @@ impl Telling<'_> {
         if let Some(i) = next {
             return cursor.at_item(i + 1).behind(owing::owed_phrase(i));
         }
-        let no_more = Phrase::plain(book::OWED_END);
+        let no_more = Phrase::new(Word::OwedEnd, []);
         if self.found.told.number == 0 {
             cursor.says(no_more, Part::Last(LastPart::Opening))
         } else {
@@ -88,7 +88,7 @@ impl Telling<'_> {
             .saturating_sub(self.found.told.index)
             .saturating_sub(1);
         cursor.says(
-            Phrase::one(book::BEHIND, count),
+            Phrase::new(Word::Behind, [count]),
             Part::Last(LastPart::Opening),
         )
     }

@@ -6,13 +6,13 @@ use native.Mathlib.Omega.{arith}
 use lib.ListN.{length, get_or-eq_default}
 use Rattle.forms.specs.Word.{byte}
 use Rattle.forms.specs.Places.{event_at}
-use Rattle.why.specs.Words.{tick_word}
+use Rattle.why.specs.declared.phrase.Word.TheVariants as words
 use Rattle.why.specs.Report.{plain, event_phrase}
 use Rattle.why.proofs.events.event_phrase.Goals as goal
 
 module _ (log : List ℕ) (i : ℕ) where
   -- behind the log the bytes are 0, and that is a tick
-  behind-it : length log / 2 ≤ i → plain tick_word ≡ event_phrase log i
+  behind-it : length log / 2 ≤ i → plain words.Tick ≡ event_phrase log i
   unfolding event_phrase
   behind-it h =
       let first : byte log (event_at i) ≡ 0 = get_or-eq_default log 0 (omega arith) in
@@ -20,4 +20,4 @@ module _ (log : List ℕ) (i : ℕ) where
       rw (first, second) refl
 
 pub returns-then-log-i : goal.returns-then-log-i
-returns-then-log-i c = c.plain.ensures ∙ behind-it c.args.log.now c.args.i c.if-log-i.true
+returns-then-log-i c = c.new.ensures ∙ behind-it c.args.log.now c.args.i c.if-log-i.true
