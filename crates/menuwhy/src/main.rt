@@ -11,7 +11,6 @@ ghost use Rattle.menuwhy.specs.Room.{phrase_most};
 
 use phrases::arguments::{Asked, Misuse, Request};
 use phrases::names;
-use phrases::phrase::Phrase;
 use std::env::Env;
 use std::fs::File;
 use std::io::Write;
@@ -19,9 +18,6 @@ use std::{io, str};
 use why::found::Wish;
 use why::telling;
 use why::telling::Begun;
-
-// The words of a line of names that cannot be read.
-const BAD_NAME: usize = 1;
 
 // How long the buffers are. A file is shorter: one that fills its buffer is not taken.
 const BUFFER: usize = 65536;
@@ -134,7 +130,7 @@ fn tell_bad_names<W: Write>(to: &mut W, names: &[u8], out: &mut [u8]) -> io::Res
 {
     let mut line = 0;
     while let Some(bad) = names::next_bad(names, line) {
-        let end = table::put(out, 0, Phrase::one(BAD_NAME, bad), names);
+        let end = table::put_bad_name(out, bad, names);
         flush(to, out, end)?;
         line = bad;
     }
