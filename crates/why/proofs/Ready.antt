@@ -6,6 +6,7 @@ use mathlib.Core.List.{List, []}
 use Prim.Native.Nat.{ℕ}
 use native.Mathlib.Omega.{arith}
 use lib.ListN.{length}
+use Rattle.std.proofs.Common.{Ok, Err}
 use Rattle.model.specs.declared.net.Net.{Net as Shape}
 use Rattle.model.specs.Net.{State}
 use Rattle.model.specs.Run.{stay, run, started_after}
@@ -16,9 +17,7 @@ use Rattle.forms.specs.Frame.{Framed, Began}
 use Rattle.forms.proofs.Written.{written-own}
 use Rattle.runs.specs.declared.told.RunTold.{RunTold}
 use Rattle.runs.specs.Runs.{told_of_run}
-use Rattle.engine.specs.declared.examine.Examined.{Examined}
-use Rattle.engine.specs.declared.examine.Examined.TheVariants as examined
-use Rattle.engine.specs.Examined.{examine_state, examine_log}
+use Rattle.engine.specs.Examined.{Examined, examine_state, examine_log}
 use Rattle.engine.specs.Calls.{events_part, initial_left, run_told}
 use Rattle.engine.specs.Demands.{Passes}
 use Rattle.engine.specs.Promised.{Fit}
@@ -36,8 +35,8 @@ use Rattle.why.proofs.Fed.{is-first, first-events}
 late-fits : (net b log : List ℕ) (x : Examined) → examine_log net b log ≡ x → is_early (run_told net b log false).number ≡ false
     → (s : Shape) × Framed net s b × IsLog log
 unfolding run_told
-late-fits net b log (examined.Fit s) e late = let (f, l) = log-fits net s b log e in (s, f, l)
-late-fits net b log (examined.Unfit why) e late = not-both (fault-early why) (rw e at late)
+late-fits net b log (Ok s) e late = let (f, l) = log-fits net s b log e in (s, f, l)
+late-fits net b log (Err why) e late = not-both (fault-early why) (rw e at late)
 
 -- the initial state, in whatever buffer has room for it
 module _ (net x : List ℕ) (s : Shape) (b : List ℕ) (bytes : Bytes net) (f : Framed net s b) (long : length x ≡ length b) where

@@ -1,20 +1,24 @@
 // An event of a log, as a phrase.
 ghost use Rattle.std.specs.Prelude.{◌≡◌};
+ghost use Rattle.model.specs.Event.{event_of};
 ghost use Rattle.why.specs.Report.{say_event, event_phrase};
 
 use crate::bytes;
 use crate::phrase::{Phrase, Word};
 use forms::places;
-use model::event::Event;
+use model::event::{Event, Pair};
 
-fn say(event: Event, first: usize, second: usize) -> Phrase
-    ensures { result ≡ say_event event first second }
+fn say(pair: Pair) -> Phrase
+    ensures { result ≡ say_event (event_of pair.first pair.second) pair.first pair.second }
 {
-    match event {
+    match Event::from(pair) {
         Event::Tick => Phrase::new(Word::Tick, []),
         Event::Start(t) => Phrase::new(Word::Start, [t]),
         Event::End(t, age) => Phrase::new(Word::End, [t, usize::from(age.0)]),
-        Event::Malformed => Phrase::new(Word::NoEvent, [first, second]),
+        Event::Malformed => Phrase::new(
+            Word::NoEvent,
+            [usize::from(pair.first), usize::from(pair.second)],
+        ),
     }
 }
 
@@ -27,7 +31,8 @@ pub fn event_phrase(log: &[u8], i: usize) -> Phrase
         return Phrase::new(Word::Tick, []);
     }
     let at = places::EVENTS_AT + 2 * i;
-    let first = bytes::byte_of(log, at);
-    let second = bytes::byte_of(log, at + 1);
-    say(Event::of(first as u8, second as u8), first, second)
+    say(Pair {
+        first: bytes::byte_of(log, at) as u8,
+        second: bytes::byte_of(log, at + 1) as u8,
+    })
 }

@@ -12,7 +12,13 @@ use crate::telling::Telling;
 use crate::{bytes, verdict};
 use forms::places;
 
-// The number of a log that is refused.
+// The numbers of forms' faults: patterns take constants, and no constant's value may call `from`.
+const NET_FRAME: u8 = 1;
+
+const NET_SIZE: u8 = 2;
+
+const NET_LENGTH: u8 = 3;
+
 const LOG_FRAME: u8 = 10;
 
 // Where the row of a transition begins in the net.
@@ -49,9 +55,9 @@ impl Telling<'_> {
         let transitions = bytes::byte_of(net, places::TRANSITIONS_AT);
         match number {
             LOG_FRAME => frame(word, self.log),
-            1 => frame(word, net),
-            2 => Phrase::new(word, [places, transitions]),
-            3 => Phrase::new(
+            NET_FRAME => frame(word, net),
+            NET_SIZE => Phrase::new(word, [places, transitions]),
+            NET_LENGTH => Phrase::new(
                 word,
                 [
                     places::row_at(places, transitions),

@@ -9,16 +9,15 @@ use crate::phrase::{Phrase, Word};
 use crate::telling::Telling;
 use crate::{events, verdict};
 use engine::answers::Verdict;
+use model::answer::Refusal;
 use runs::told::WalkTold;
 
-// The number that is told for a start before the event, and so for events in front of it.
-const BEHIND_A_START: u8 = 28;
-
-// No lawful state leads to the last state by the event at which the walk stopped and those behind it.
+// No lawful state leads to the last state by the event at which the walk stopped and those behind it; where a start stands before it in its step, not
+// with that start.
 fn no_way(walk: WalkTold) -> Phrase
     ensures { result ≡ no_way_phrase walk }
 {
-    if walk.number == BEHIND_A_START {
+    if walk.number == u8::from(Refusal::OldAfterStart) {
         Phrase::new(Word::NoWayStarted, [walk.index])
     } else {
         Phrase::new(Word::NoWay, [walk.index])

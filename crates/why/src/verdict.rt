@@ -8,9 +8,7 @@ use crate::phrase::{Phrase, Word};
 use crate::telling::Telling;
 use crate::{events, owing};
 use engine::calls;
-
-// The number that has a place to tell.
-const NOT_ENABLED: u8 = 13;
+use model::answer::Refusal;
 
 // What a number means, for a transition.
 pub fn meaning(number: u8, t: usize) -> Phrase
@@ -42,11 +40,11 @@ impl Telling<'_> {
     fn why(&self, cursor: Cursor) -> Said
         ensures { result ≡ why_said self.now.found cursor }
     {
-        let number = self.found.told.number;
-        if number == NOT_ENABLED {
-            cursor.says(meaning(number, 0), Part::Verdict(VerdictPart::Lacks))
+        let told = self.found.told;
+        if told.number == u8::from(Refusal::NotEnabled(told.short)) {
+            cursor.says(meaning(told.number, 0), Part::Verdict(VerdictPart::Lacks))
         } else {
-            cursor.says(meaning(number, 0), Part::Verdict(VerdictPart::Owed))
+            cursor.says(meaning(told.number, 0), Part::Verdict(VerdictPart::Owed))
         }
     }
 
