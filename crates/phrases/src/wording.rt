@@ -15,7 +15,13 @@ pub const PIECE_MOST: usize = line::DIGITS_MOST + 1 + names::NAME_MOST;
 
 // All of the words; the place behind them.
 #[tactic(auto, using(crate::proofs::Phrased::worded_turn, crate::proofs::Phrased::worded_end))]
-pub fn put(out: &mut [u8], at: usize, words: &[u8], numbers: [usize; NUMBERS_MOST], names: &[u8]) -> usize
+pub fn put(
+    out: &mut [u8],
+    at: usize,
+    words: &[u8],
+    numbers: [usize; NUMBERS_MOST],
+    names: &[u8],
+) -> usize
     requires { at + length words.now * piece_most ≤ length out.old }
     ensures upper_bound { result ≤ at + length words.now * piece_most }
     ensures worded { Worded numbers names.now out.old at words.now out.new result }
@@ -29,7 +35,13 @@ pub fn put(out: &mut [u8], at: usize, words: &[u8], numbers: [usize; NUMBERS_MOS
 
 // What stands for one byte of the words.
 #[tactic(auto, using(crate::proofs::Phrased::place_piece, crate::proofs::Phrased::transition_piece, crate::proofs::Phrased::number_piece, crate::proofs::Phrased::plain_piece))]
-fn put_piece(out: &mut [u8], at: usize, byte: u8, numbers: [usize; NUMBERS_MOST], names: &[u8]) -> usize
+fn put_piece(
+    out: &mut [u8],
+    at: usize,
+    byte: u8,
+    numbers: [usize; NUMBERS_MOST],
+    names: &[u8],
+) -> usize
     requires { at + piece_most ≤ length out.old }
     ensures upper_bound { result ≤ at + piece_most }
     ensures piece { Piece numbers names.now out.old at byte out.new result }
