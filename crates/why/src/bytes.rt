@@ -11,7 +11,7 @@ pub fn byte_of(s: &[u8], i: usize) -> usize
     s.get(i).map_or(0, |b| usize::from(*b))
 }
 
-// The word of two bytes that starts at `at`.
+// The word of two bytes that starts at `at`. (Not by `u16::from_be_bytes`: a byte is a number here, and one that is not there is 0.)
 #[tactic(auto, unfolding(forms::specs::Word::word))]
 pub fn word_of(s: &[u8], at: usize) -> usize
     requires { at < 4294967296 }

@@ -6,7 +6,7 @@ ghost use Rattle.why.specs.State.{owed_most, does_owe, owed_phrase};
 use crate::phrase::{Phrase, Word};
 use owed::bits;
 
-// 64 starts and 64 ends.
+// 64 starts and 64 ends. (A number, and no enum, says which: the cursor keeps it as the item that is to come.)
 pub const OWED_MOST: usize = 128;
 
 #[tactic(auto, unfolding(crate::specs::State::does_owe))]

@@ -33,7 +33,7 @@ pub struct Begun<'a> {
 pub const FEW: usize = 3;
 
 // Finds out what is to be told, and where the telling begins. The initial state stands in `state` then. There is room for every state, so that
-// what is refused is the net or the log.
+// what is refused is the net or the log. (The option is matched here: of one that is passed on whole nothing would be known at the end.)
 #[tactic(auto, unfolding(crate::specs::Found::found_of, crate::specs::Found::found_state, crate::specs::Found::last_found, crate::specs::Found::state_left))]
 pub fn begin<'a>(
     net: &'a [u8],
