@@ -7,8 +7,6 @@ use Rattle.model.specs.declared.net.Net.{Net as Shape}
 use Rattle.model.specs.Net.{Net}
 use Rattle.model.proofs.Determined.{Determined, LeavesOne}
 use Rattle.forms.specs.Frame.{HasShape}
-use Rattle.forms.proofs.words.wide.Reads as wide
-use Rattle.forms.proofs.words.wide.Kinds as wide-kinds
 use Rattle.forms.proofs.words.read16.Reads as read16
 use Rattle.forms.proofs.words.read16.Kinds as read16-kinds
 use Rattle.forms.proofs.words.read32.Reads as read32
@@ -57,10 +55,6 @@ use Rattle.forms.proofs.checked.CheckedNet.lfd.Reads as checked-net-lfd
 use Rattle.forms.proofs.checked.CheckedNet.lfd.Kinds as checked-net-lfd-kinds
 use Rattle.forms.proofs.net.check_net.Reads as check-net
 use Rattle.forms.proofs.net.check_net.Kinds as check-net-kinds
-use Rattle.forms.proofs.net.sfd.Reads as sfd
-use Rattle.forms.proofs.net.sfd.Kinds as sfd-kinds
-use Rattle.forms.proofs.net.lfd.Reads as lfd
-use Rattle.forms.proofs.net.lfd.Kinds as lfd-kinds
 use Rattle.forms.proofs.net.shape_of.Reads as shape_of
 use Rattle.forms.proofs.net.shape_of.Kinds as shape-of-kinds
 use Rattle.forms.proofs.state.check_state.Reads as check-state
@@ -77,9 +71,6 @@ shape-once N x y a b = λ i. record {
   transitions = (a.transitions_are ∙ sym b.transitions_are) i;
   width = (a.width_is ∙ sym b.width_is) i;
 }
-
-pub wide-determined : Determined 0 wide-kinds.ps wide-kinds.r wide.Learnt
-wide-determined κs args x y s s' p q = p.0 ∙ sym q.0
 
 pub read16-determined : Determined 1 read16-kinds.ps read16-kinds.r read16.Learnt
 read16-determined κs args x y s s' p q = p.0 ∙ sym q.0
@@ -146,12 +137,6 @@ checked-index-determined κs args x y s s' p q = p ∙ sym q
 
 pub check-net-determined : Determined 1 check-net-kinds.ps check-net-kinds.r check-net.Learnt
 check-net-determined κs args x y s s' p q = p ∙ sym q
-
-pub sfd-determined : Determined 1 sfd-kinds.ps sfd-kinds.r sfd.Learnt
-sfd-determined κs args x y s s' p q = p ∙ sym q
-
-pub lfd-determined : Determined 1 lfd-kinds.ps lfd-kinds.r lfd.Learnt
-lfd-determined κs args x y s s' p q = p.0 ∙ sym q.0
 
 pub shape-of-determined : Determined 1 shape-of-kinds.ps shape-of-kinds.r shape_of.Learnt
 shape-of-determined κs args x y s s' p q = shape-once _ x y p q

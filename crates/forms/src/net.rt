@@ -47,18 +47,9 @@ fn check_row(net: &[u8], t: usize) -> Result<(), Fault>
     Ok(())
 }
 
-// The shortest duration of transition t of a checked net.
+// The longest duration of transition t. The bound leaves room for every width that fits its byte.
 #[tactic(auto, unfolding(crate::specs::Stored::net_of))]
-pub fn sfd(net: &[u8], t: usize) -> usize
-    requires { IsNet net.now × (t < byte net.now 6) }
-    ensures { result ≡ (net_of net.now).sfd t }
-{
-    usize::from(net[places::row_at(usize::from(net[places::PLACES_AT]), t)])
-}
-
-// The longest duration of transition t of a checked net. The bound leaves room for every width that fits its byte.
-#[tactic(auto, unfolding(crate::specs::Stored::net_of))]
-pub fn lfd(net: &[u8], t: usize) -> usize
+fn lfd(net: &[u8], t: usize) -> usize
     requires { IsNet net.now × (t < byte net.now 6) }
     ensures { (result ≡ (net_of net.now).lfd t) × (result < 255) }
 {

@@ -3,13 +3,6 @@
 ghost use Rattle.std.specs.Prelude.{◌≡◌, ◌+◌, ◌*◌, ◌<◌, ◌≤◌, length};
 ghost use Rattle.forms.specs.Word.{word, word32, is_blank, set_word, set_word32, put_words};
 
-// A byte as a number, with its bound.
-pub fn wide(x: u8) -> usize
-    ensures { (result ≡ x) × (result < 256) }
-{
-    usize::from(x)
-}
-
 // The word of two bytes that starts at `at`.
 #[tactic(auto, unfolding(crate::specs::Word::word))]
 pub fn read16(s: &[u8], at: usize) -> usize

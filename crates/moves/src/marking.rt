@@ -74,7 +74,7 @@ pub fn has_room(weights: &[u8], state: &[u8]) -> bool
     ensures { result ≡ is_roomy weights.now 0 state.now (length weights.now) }
 {
     (0..weights.len()).all(|p| Net::held(
-        words::read16(state, places::mark_at(p)) + words::wide(weights[p]),
+        words::read16(state, places::mark_at(p)) + usize::from(weights[p]),
     ))
 }
 

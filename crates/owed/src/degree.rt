@@ -27,7 +27,7 @@ fn least_times(weights: &[u8], state: &[u8]) -> usize
 {
     (0..weights.len()).fold(Net::MAX_TOKENS, |fewest, p| {
         let marking = words::read16(state, places::mark_at(p));
-        fewest.min(times(words::wide(weights[p]), marking))
+        fewest.min(times(usize::from(weights[p]), marking))
     })
 }
 

@@ -35,7 +35,7 @@ pub fn short(net: CheckedNet, state: &[u8], t: usize, p: usize) -> Short
     requires t_bound { (t < net.shape.transitions) × (p < net.shape.places) × (p ≡ lacking_place (net_of net.bytes.now) (stored net.bytes.now state.now) t) }
     ensures { result ≡ short (net_of net.entry.bytes.now) (stored net.entry.bytes.now state.now) t }
 {
-    let weight = words::wide(weights::inputs(net, t)[p]);
+    let weight = usize::from(weights::inputs(net, t)[p]);
     let lacks = weight - words::read16(state, places::mark_at(p));
     Short {
         place: p as u32,

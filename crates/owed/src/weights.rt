@@ -5,7 +5,7 @@ ghost use Rattle.forms.specs.Stored.{net_of};
 ghost use Rattle.owed.specs.Weights.{AreWeights, NextAbove, pass_zero};
 
 use forms::checked::CheckedNet;
-use forms::{places, words};
+use forms::places;
 
 // The input weights of transition t.
 pub fn inputs<'a>(net: CheckedNet<'a>, t: usize) -> &'a [u8]
@@ -66,7 +66,7 @@ impl<'a> Iterator for AboveZero<'a> {
     fn next(&mut self) -> Option<(usize, usize)> {
         while self.at < self.weights.len() {
             let p = self.at;
-            let weight = words::wide(self.weights[p]);
+            let weight = usize::from(self.weights[p]);
             if weight != 0 {
                 self.at = p + 1;
                 return Some((p, weight));

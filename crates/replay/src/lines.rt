@@ -51,7 +51,7 @@ pub fn marks(out: &mut [u8], at: usize, state: &[u8]) -> usize
     ensures upper_bound { result ≤ at + marks_most }
     ensures line { Line out.old at marks_name (marks_fields state.now) [] out.new result }
 {
-    let places = words::wide(state[places::PLACES_AT]);
+    let places = usize::from(state[places::PLACES_AT]);
     let mut end = line::put_bytes(out, at, b"marks");
     for p in 0..places {
         let tokens = words::read16(state, places::mark_at(p));
@@ -82,9 +82,9 @@ fn shape_in(state: &[u8]) -> Net
     ensures places_bound { (result.places < 256) × (result.transitions < 256) × (result.width < 256) }
 {
     Net::new(
-        words::wide(state[places::PLACES_AT]),
-        words::wide(state[places::TRANSITIONS_AT]),
-        words::wide(state[places::WIDTH_AT]),
+        usize::from(state[places::PLACES_AT]),
+        usize::from(state[places::TRANSITIONS_AT]),
+        usize::from(state[places::WIDTH_AT]),
     )
 }
 
@@ -144,7 +144,7 @@ pub fn run_of(out: &mut [u8], at: usize, state: &[u8], cell: usize) -> usize
     ensures upper_bound { result ≤ at + run_most }
     ensures line { Line out.old at run_name (cell_fields state.now cell) [] out.new result }
 {
-    let width = words::wide(state[places::WIDTH_AT]);
+    let width = usize::from(state[places::WIDTH_AT]);
     let age = Age((cell % width) as u8);
     run(out, at, cell / width, age, count(state, cell))
 }

@@ -11,10 +11,10 @@ read16-requires c = omega (arith, marks-inside c.args.net.bytes.now c.args.net.s
 pub overflow_sub-lacks : goal.overflow_sub-lacks
 overflow_sub-lacks c =
     let told = short_is c.args.net.bytes.now c.args.net.shape c.args.state.now (framed c.args.net c.requires.is_state) c.args.t c.inputs.result.now c.inputs.ensures c.args.p c.requires.t_bound.1 c.requires.t_bound.2
-    _ _ _ c.wide-weight.ensures.0 c.read16.ensures.0 c.mark_at.ensures in
+    _ _ _ c.from-weight.ensures c.read16.ensures.0 c.mark_at.ensures in
     omega (arith, told.0)
 
 pub returns : goal.returns
 returns c =
     (short_is c.args.net.bytes.now c.args.net.shape c.args.state.now (framed c.args.net c.requires.is_state) c.args.t c.inputs.result.now c.inputs.ensures c.args.p c.requires.t_bound.1 c.requires.t_bound.2
-    _ _ _ c.wide-weight.ensures.0 c.read16.ensures.0 c.mark_at.ensures).1
+    _ _ _ c.from-weight.ensures c.read16.ensures.0 c.mark_at.ensures).1

@@ -7,11 +7,11 @@ use Rattle.owed.proofs.weights.AboveZeroIterator.next.Goals as goal
 
 pub loop-self-smaller : goal.loop-self-smaller
 loop-self-smaller c =
-    let on = passed c.loop-self.self.weights.now c.loop-self.self.at c.pass_zero-self.result c.loop-self-test.true (omega (arith, c.wide-weight.ensures.0)) c.pass_zero-self.ensures in
+    let on = passed c.loop-self.self.weights.now c.loop-self.self.at c.pass_zero-self.result c.loop-self-test.true (omega (arith, c.from-weight.ensures)) c.pass_zero-self.ensures in
     omega (arith, on.0)
 
 pub loop-self-preserved : goal.loop-self-preserved
 loop-self-preserved c =
-    let on = passed c.loop-self.self.weights.now c.loop-self.self.at c.pass_zero-self.result c.loop-self-test.true (omega (arith, c.wide-weight.ensures.0)) c.pass_zero-self.ensures in
+    let on = passed c.loop-self.self.weights.now c.loop-self.self.at c.pass_zero-self.result c.loop-self-test.true (omega (arith, c.from-weight.ensures)) c.pass_zero-self.ensures in
     let zeros : AreZero c.args.self.now.weights.now c.loop-self.self.at c.pass_zero-self.result = rw c.loop-self.invariant.0 at on.1 in
     (c.loop-self.invariant.0, omega (arith, on.0), λ k u v. below-or-past k c.loop-self.self.at (c.loop-self.invariant.2 k u) (λ past. zeros k past v))
