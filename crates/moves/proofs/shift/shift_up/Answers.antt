@@ -1,13 +1,21 @@
--- `shift::shift_up` meets its contract: the bytes of the block go up by two places.
-use Rattle.std.proofs.Common.{◌∙◌, rules, arith}
-use Rattle.forms.specs.Word.{Bytes}
-use Rattle.moves.proofs.Shifting.{lifted, lifted-all}
+-- `shift::shift_up` meets its contract. The loop goes down, and keeps that the bytes from place n on have gone up (`Lifted`).
+use mathlib.Core.Path.{◌∙◌}
+use native.Mathlib.Omega.{arith}
+use borrow.Author.Rules.{rules}
+use Rattle.moves.proofs.Shifting.{lifted-turn, lifted-all}
 use Rattle.moves.proofs.shift.shift_up.Goals as goal
+
+pub loop-n-preserved : goal.loop-n-preserved
+loop-n-preserved c =
+    let a = c.args in (
+      omega arith,
+      lifted-turn a.base a.cells a.s.now c.loop-n.n c.loop-n.s c.loop-n.invariant.1 (omega arith) (omega arith) (omega arith) (omega arith),
+      search rules,
+    )
 
 pub returns : goal.returns
 returns c =
     let a = c.args in
-    let small : Bytes a.s.now = search rules in
-    let moved = c.copy_within.ensures.by_index in
-    c.write16.ensures ∙ lifted-all a.base a.cells a.s.now c.copy_within.new.self c.requires.0 c.requires.1
-    (lifted a.base a.cells a.s.now c.copy_within.new.self c.requires.0 c.requires.1 c.copy_within.ensures.len _ (omega arith) moved.0 moved.1 moved.2) small
+    c.write16.ensures
+    ∙ lifted-all a.base a.cells a.s.now c.loop-n.n c.loop-n.s c.loop-n.invariant.1 (omega arith) (omega arith) (omega arith)
+    (search rules)
