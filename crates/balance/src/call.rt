@@ -15,7 +15,7 @@ pub const UNBALANCED: u8 = 30;
 // 31: the weights are not two bytes for each place.
 pub const NO_WEIGHTS: u8 = 31;
 
-// The number of document 01 or of W6, and as index the transition for 4, 5, 6, 9 and 30 and else 0; what the state weighs, 0 on a refusal.
+// Numbers, as the C interface hands them on: the number of document 01 or of W6, and as index the transition for 4, 5, 6, 9 and 30 and else 0; what the state weighs, 0 on a refusal.
 #[derive(Clone, Copy)]
 pub struct BalanceTold {
     pub number: u8,

@@ -1,5 +1,6 @@
 // What the calls tell beside a run and a walk (runs::told). On a refusal every field but number and index is 0,
-// except the place and the shortage that 13 tells.
+// except the place and the shortage that 13 tells. They are numbers, and no results: the C interface hands them on, and `OnBytes` and
+// `Promised` speak of them.
 ghost use Rattle.std.specs.Prelude.{◌≡◌};
 ghost use Rattle.engine.specs.Answers.{verdict_of, unfit, answered, event_unfit, event_answered, no_degree, owed_of, no_report, tells_step};
 

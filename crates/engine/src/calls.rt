@@ -21,7 +21,7 @@ use owed::{degree, report};
 use runs::told::{RunTold, WalkTold};
 use runs::{run, walk};
 
-// 23: the log has no such step.
+// 23: the log has no such step. The one thing that a step is refused by beside a fault of the log, so no enum.
 pub const NO_SUCH_STEP: u8 = 23;
 
 // Checks a net: 1 to 6.

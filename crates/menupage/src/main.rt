@@ -41,7 +41,8 @@ fn take_arguments<E: Env>(env: &E) -> Option<Wish> {
     arguments::read(count.saturating_sub(1), &first[..m], &second[..n])
 }
 
-// Builds the page of what arrives, and prints what came of it: the lines, or with `--log` the log, and the lines aside.
+// Builds the page of what arrives, and prints what came of it: the lines, or with `--log` the log, and the lines aside. The buffers are lent,
+// since nothing allocates.
 fn answer<R: Read, W: Write, A: Write>(
     wish: Wish,
     from: &mut R,

@@ -17,7 +17,7 @@ const INPUT_MOST: usize = places::LONGEST_NET + places::LONGEST_LOG + 1;
 // How long the buffer for the lines is.
 const BUFFER: usize = 65536;
 
-// Replays what arrives, and prints what came of it.
+// Replays what arrives, and prints what came of it. The buffers are lent, since nothing allocates.
 fn answer<R: Read, W: Write>(
     from: &mut R,
     to: &mut W,

@@ -1,5 +1,6 @@
 // Starts and ends of a transition that the order of the step permits (`order`), done (12; 13, 14; 15, 16, 17) and taken back (12; 24, 25; 15,
-// 26, 27). For these it is all one whether a start has happened in the step.
+// 26, 27). For these it is all one whether a start has happened in the step. They are four functions, and no generic one: each asks other things in
+// another order, which is that of the numbers.
 ghost use Rattle.std.specs.Prelude.{◌≡◌, true, false, ◌+◌, ◌<◌, ◌≤◌, length};
 ghost use Rattle.model.specs.declared.event.Event.TheVariants as event;
 ghost use Rattle.model.specs.Rules.{answer_of, is_timely, has_no_old_end_owed};

@@ -1,6 +1,6 @@
 // The order of a step (request W5): its ends of age 1 or more come before its starts. A start asks that no such end is owed (29), and behind
 // a start no firing of age 1 or more ends (28). Where one of the two rules is broken, what is told before its number is asked
-// here; all the rest is in `firing`.
+// here; all the rest is in `firing`. Each pair, done and taken back, keeps its two functions: what is told before differs.
 ghost use Rattle.std.specs.Prelude.{◌≡◌, true, false};
 ghost use Rattle.model.specs.declared.event.Event.TheVariants as event;
 ghost use Rattle.model.specs.Net.{State};

@@ -92,7 +92,7 @@ pub fn tick_again(net: CheckedNet, state: &mut [u8]) -> Result<(), Refusal>
     Ok(())
 }
 
-// Another tick is taken back.
+// Another tick is taken back. What it asks, and what it is refused by, differs from `tick_again`'s.
 pub fn untick_again(net: CheckedNet, state: &mut [u8]) -> Result<(), Refusal>
     requires is_state { IsState (net_of net.bytes.now) state.old }
     requires settled { Settled net.bytes.now state.old }

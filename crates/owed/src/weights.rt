@@ -16,7 +16,7 @@ pub fn inputs<'a>(net: CheckedNet<'a>, t: usize) -> &'a [u8]
     &net.bytes[at..at + net.shape.places]
 }
 
-// The output weights of transition t.
+// The output weights of transition t. Not one function with `inputs`: they differ in where they stand and in what is promised.
 pub fn outputs<'a>(net: CheckedNet<'a>, t: usize) -> &'a [u8]
     requires { t < net.shape.transitions }
     ensures { AreWeights net.entry.shape.places ((net_of net.entry.bytes.now).gives t) result.now }

@@ -11,7 +11,7 @@ use model::answer::Short;
 // The last of the numbers that are told before the first event: the log's.
 pub const LAST_EARLY: u8 = 10;
 
-// The fields of menurun's first line.
+// The fields of menurun's first line, each a number there.
 #[derive(Clone, Copy)]
 pub struct Replayed {
     pub number: u8,

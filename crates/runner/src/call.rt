@@ -12,7 +12,7 @@ use forms::checked::CheckedNet;
 use forms::fault::Fault;
 use forms::places;
 
-// Document 01's number, and as index the transition for 4, 5, 6 and 9 and else 0; the number of the stop, the events done, and the ticks
+// Numbers, as the C interface hands them on: document 01's number, and as index the transition for 4, 5, 6 and 9 and else 0; the number of the stop, the events done, and the ticks
 // among them, all three 0 on a refusal.
 #[derive(Clone, Copy)]
 pub struct PageTold {
