@@ -1,4 +1,5 @@
-// A checked net: its bytes, and its shape, which is found once and goes with them from call to call.
+// A checked net: its bytes, and its shape, which is found once and goes with them from call to call. The state is no field: it is lent to be written,
+// so each function asks of it, by `IsState`, that it is one of this net.
 ghost use Rattle.std.specs.Prelude.{◌≡◌, ◌<◌, ◌≤◌, Ok, MatchResult};
 ghost use Rattle.forms.specs.Nets.{check_net};
 ghost use Rattle.forms.specs.Stored.{net_of};

@@ -11,7 +11,7 @@ pub struct Short {
 }
 
 impl Short {
-    // What is told where no place is short.
+    // What is told where no place is short. Written out, and no derived `Default`: a must-fail edit tells another place here.
     pub fn nothing() -> Short
         ensures { result ≡ nothing_short }
     {

@@ -28,7 +28,7 @@ pub struct Owed {
 }
 
 impl OwedSet {
-    // The set that a word stands for.
+    // The set that a word stands for. A name and no `From`: not every word is meant as a set.
     pub fn of(word: u64) -> OwedSet
         ensures { result ≡ set_of word (ones word) (count_trailing_zeros 64 word) }
     {

@@ -12,6 +12,7 @@ pub struct Clear {
 }
 
 impl Clear {
+    // Nothing is known. No `Default`: that would leave no place to look for starts from.
     pub fn nothing() -> Clear
         ensures { result ≡ clear_of 0 (Some 0) }
     {

@@ -1,4 +1,4 @@
-// How far the telling has come. Every call of `telling::next` tells one phrase and moves on.
+// How far the telling has come. Every call of `Telling::next` tells one phrase and moves on.
 ghost use Rattle.std.specs.Prelude.{◌≡◌};
 ghost use Rattle.why.specs.Said.{said, go_to, at_item, opens};
 
