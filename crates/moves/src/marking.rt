@@ -50,7 +50,7 @@ pub fn take(weights: &[u8], state: &mut [u8]) -> Option<usize>
     short
 }
 
-// The weights join the marking, if every place has room for its weight.
+// The weights join the marking, if every place has room for its weight. Whether they do is all that is told: no refusal names the place.
 pub fn give(weights: &[u8], state: &mut [u8]) -> bool
     requires { (length weights.now < 256) × (mark_at (length weights.now) ≤ length state.old) }
     ensures value { result ≡ is_roomy weights.now 0 state.old (length weights.now) }

@@ -64,6 +64,7 @@ impl<'a> Iterator for AboveZero<'a> {
     ghost remaining = { λ s. at_most (length s.weights.now - s.at) };
 
     fn next(&mut self) -> Option<(usize, usize)> {
+        // by one place or by eight, which no range does
         while self.at < self.weights.len() {
             let p = self.at;
             let weight = usize::from(self.weights[p]);
