@@ -6,7 +6,7 @@ use Rattle.balance.proofs.Promised.{balance-promised}
 use Rattle.balance.proofs.call.balance.Goals as goal
 
 pub weigh-requires : goal.weigh-requires
-weigh-requires c = (state-found _ c.in-Ok.net _ c.in-Ok.ensures).is_state
+weigh-requires c = state-found _ c.in-Ok.net _ c.in-Ok.ensures
 
 pub returns-in-Ok : goal.returns-in-Ok
 unfolding balance_told
