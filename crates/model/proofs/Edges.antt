@@ -28,6 +28,8 @@ bytes-at-edges = record {
   start = (refl, refl, refl, refl);
   end = (refl, refl);
   nothing = (refl, refl);
+  called_tick = (refl, refl, refl, refl);
+  called_start = (refl, refl, refl, refl, refl, refl);
   of_the_log = refl;
 }
 

@@ -19,6 +19,7 @@ pub mod Tellings
 pub mod Turns
 pub mod Run
 pub mod Order
+pub mod Bytes
 pub mod Reversed
 pub mod Walk
 pub mod Degree

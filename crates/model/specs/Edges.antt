@@ -3,7 +3,7 @@
 use Rattle.std.specs.Prelude.{◌≡◌, true, false, [], ◌∷◌}
 use Rattle.model.specs.declared.event.Event.TheVariants as event
 use Rattle.model.specs.Age.{column_of, age_of}
-use Rattle.model.specs.Event.{event_of}
+use Rattle.model.specs.Event.{event_of, is_tick, is_start}
 use Rattle.model.specs.Limits.{is_sized, is_interval, is_logged, is_held}
 use Rattle.model.specs.Cases.{log}
 
@@ -24,5 +24,8 @@ pub record BytesAtEdges : Type 0 where
   pub start : (event_of 1 0 ≡ event.Start 0) × (event_of 64 0 ≡ event.Start 63) × (event_of 64 1 ≡ event.Malformed) × (event_of 1 255 ≡ event.Malformed)
   pub end : (event_of 65 0 ≡ event.End 0 (record { 0 = 0 })) × (event_of 128 255 ≡ event.End 63 (record { 0 = 255 }))
   pub nothing : (event_of 129 0 ≡ event.Malformed) × (event_of 255 255 ≡ event.Malformed)
+  -- only the pair 0, 0 is called a tick, and only a pair 1..64, 0 a start
+  pub called_tick : (is_tick 0 0 ≡ true) × (is_tick 0 1 ≡ false) × (is_tick 1 0 ≡ false) × (is_tick 255 255 ≡ false)
+  pub called_start : (is_start 1 0 ≡ true) × (is_start 64 0 ≡ true) × (is_start 0 0 ≡ false) × (is_start 65 0 ≡ false) × (is_start 64 1 ≡ false) × (is_start 1 255 ≡ false)
   -- the events of document 01's log: 01 00 00 00 41 01 02 00 42 00
   pub of_the_log : (event_of 0x01 0x00 ∷ event_of 0x00 0x00 ∷ event_of 0x41 0x01 ∷ event_of 0x02 0x00 ∷ event_of 0x42 0x00 ∷ []) ≡ log
