@@ -2,10 +2,17 @@
 -- are equal, and so are two lists that it permits a lent buffer to hold at exit. What is cited is the promise itself, as a caller
 -- learns it.
 -- Assumes nothing.
-use mathlib.Core.Path.{◌≡◌, sym, ◌∙◌}
+use mathlib.Core.Path.{◌≡◌, sym, ap, ◌∙◌}
+use mathlib.Core.HLevel.{is_prop→PathP}
+use Prim.Native.Nat.{◌<◌, ◌≤◌}
+use Rattle.std.proofs.Common.{Ok, Err}
+use Rattle.std.proofs.Props.{props}
 use Rattle.model.specs.declared.net.Net.{Net as Shape}
 use Rattle.model.specs.Net.{Net}
 use Rattle.model.proofs.Determined.{Determined, LeavesOne}
+use Rattle.forms.specs.declared.checked.CheckedNet.{CheckedNet}
+use Rattle.forms.specs.Nets.{check_net}
+use Rattle.forms.specs.Stored.{net_of}
 use Rattle.forms.specs.Frame.{HasShape}
 use Rattle.forms.proofs.words.read16.Reads as read16
 use Rattle.forms.proofs.words.read16.Kinds as read16-kinds
@@ -49,6 +56,8 @@ use Rattle.forms.proofs.fault.number_of.Reads as checked-number
 use Rattle.forms.proofs.fault.number_of.Kinds as checked-number-kinds
 use Rattle.forms.proofs.fault.index_of.Reads as checked-index
 use Rattle.forms.proofs.fault.index_of.Kinds as checked-index-kinds
+use Rattle.forms.proofs.checked.CheckedNet.of.Reads as checked-net-of
+use Rattle.forms.proofs.checked.CheckedNet.of.Kinds as checked-net-of-kinds
 use Rattle.forms.proofs.checked.CheckedNet.sfd.Reads as checked-net-sfd
 use Rattle.forms.proofs.checked.CheckedNet.sfd.Kinds as checked-net-sfd-kinds
 use Rattle.forms.proofs.checked.CheckedNet.lfd.Reads as checked-net-lfd
@@ -140,6 +149,27 @@ check-net-determined κs args x y s s' p q = p ∙ sym q
 
 pub shape-of-determined : Determined 1 shape-of-kinds.ps shape-of-kinds.r shape_of.Learnt
 shape-of-determined κs args x y s s' p q = shape-once _ x y p q
+
+-- a checked net is its bytes and its shape
+same-checked : (x y : CheckedNet) → x.bytes ≡ y.bytes → x.shape ≡ y.shape → x ≡ y
+same-checked x y e f = λ i. record {
+  bytes = e i;
+  shape = f i;
+  passes = is_prop→PathP (λ j. check_net (e j).now ≡ Ok tt) (λ j. hlevel props) x.passes y.passes i;
+  has_shape = is_prop→PathP (λ j. HasShape (net_of (e j).now) (f j)) (λ j. hlevel props) x.has_shape y.has_shape i;
+  column = is_prop→PathP (λ j. 0 < (f j).width) (λ j. hlevel props) x.column y.column i;
+  small = is_prop→PathP (λ j. ((f j).places < 256) × ((f j).transitions < 256) × ((f j).width ≤ 256)) (λ j. hlevel props) x.small y.small i;
+}
+
+-- of one slice there is one, as there is one shape
+one_checked : (x y : CheckedNet) → x.bytes ≡ y.bytes → x ≡ y
+one_checked x y e = same-checked x y e (shape-once (net_of y.bytes.now) x.shape y.shape (rw e at x.has_shape) y.has_shape)
+
+pub checked-net-of-determined : Determined 1 checked-net-of-kinds.ps checked-net-of-kinds.r checked-net-of.Learnt
+checked-net-of-determined κs args (Ok net) (Ok other) s s' p q = ap Ok (one_checked net other (p.1 ∙ sym q.1))
+checked-net-of-determined κs args (Ok net) (Err why) s s' p q = cc
+checked-net-of-determined κs args (Err why) (Ok net) s s' p q = cc
+checked-net-of-determined κs args (Err why) (Err other) s s' p q = cc
 
 pub checked-net-sfd-determined : Determined 1 checked-net-sfd-kinds.ps checked-net-sfd-kinds.r checked-net-sfd.Learnt
 checked-net-sfd-determined κs args x y s s' p q = p ∙ sym q
