@@ -122,13 +122,14 @@ module _ (net : List ℕ) (from p n : ℕ) where
         let place : from + p + (q - p) ≡ from + q = omega arith in
         rw place at (eight-each net (from + p) z (q - p) (omega arith)))
 
--- the weights of a slice that are passed over at place p are 0
-pub passed : (s : List ℕ) (p r : ℕ) → p < length s → byte s p ≡ 0 → r ≡ pass_zero s 0 p (length s) → (p < r) × AreZero s p r
+-- the weights of a slice that are passed over at place p are 0, and none behind its end is passed over
+pub passed : (s : List ℕ) (p r : ℕ) → p < length s → byte s p ≡ 0 → r ≡ pass_zero s 0 p (length s) → (p < r) × AreZero s p r × (r ≤ length s)
 passed s p r l zero-here e =
     let n = length s in
     let here : byte s (0 + p) ≡ 0 = same s p (0 + p) p (omega arith) ∙ zero-here in (
       omega (arith, pass_on s 0 p n l),
       λ k u v. same s k k (0 + k) (omega arith) ∙ passed-zero s 0 p n l here k u (omega arith),
+      omega (arith, pass_on s 0 p n l),
     )
 
 -- a loop that has passed the test f at each number below p, and passes on to r

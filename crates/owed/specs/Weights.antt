@@ -1,6 +1,6 @@
 -- The weights of a transition, which stand in the net from `from` on, and of which most are 0.
 -- Assumes nothing.
-use Rattle.std.specs.Prelude.{◌≡◌, ◌&&◌, cond, List, length, ℕ, ◌+◌, ◌*◌, ◌<◌, ◌≤◌, eqb, leb, Option, MatchOption}
+use Rattle.std.specs.Prelude.{◌≡◌, ◌&&◌, cond, List, length, ℕ, max, ◌+◌, ◌*◌, ◌<◌, ◌≤◌, eqb, leb, Option, MatchOption}
 use Rattle.forms.specs.Word.{byte}
 
 -- two, four and eight bytes as a number, the first the lowest
@@ -25,8 +25,9 @@ AreWeights n w weights = (length weights ≡ n) × ((p : ℕ) → p < n → byte
 abbrev pub AreZero : List ℕ → ℕ → ℕ → Type 0
 AreZero weights p q = (k : ℕ) → p ≤ k → k < q → byte weights k ≡ 0
 
--- the first place from `at` on whose weight is above 0, with its weight, and the place behind it; or none where all weights from there on are 0
+-- the first place from `at` on whose weight is above 0, with its weight, and the place behind it; or none where all weights from there on are 0, and
+-- then the end of the weights, or `at` where that is past it
 abbrev pub NextAbove : List ℕ → ℕ → Option (ℕ × ℕ) → ℕ → Type 0
 NextAbove weights at found behind =
-    MatchOption found (AreZero weights at (length weights)) (λ x.
+    MatchOption found (AreZero weights at (length weights) × (behind ≡ max at (length weights))) (λ x.
     (at ≤ x.0) × (x.0 < length weights) × (x.1 ≡ byte weights x.0) × (0 < x.1) × AreZero weights at x.0 × (behind ≡ x.0 + 1))

@@ -46,4 +46,4 @@ loop-p-preserved g c =
 pub returns : goal.returns
 returns g c = λ fails becomes h.
     change-end _ _ _ c.loop-p.invariant.small fails becomes h _ _ (c.loop-p.invariant.passed fails becomes h) _ c.loop-p.invariant.inside (omega arith)
-    (rw c.loop-p.invariant.same at c.in-None.ensures.steps.1) _ refl
+    (rw c.loop-p.invariant.same at c.in-None.ensures.steps.1).0 _ refl

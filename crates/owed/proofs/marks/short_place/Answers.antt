@@ -21,4 +21,4 @@ loop-p-preserved c =
     (rw c.in-Some.ensures.steps.0 c.loop-p.invariant.0, search-turn _ _ _ c.in-Some.p c.loop-p.invariant.1 next.4 c.in-Some.weight c.read16.result next.2 marking c.if-read16-weight.false _ next.5)
 
 pub returns : goal.returns
-returns c = search-end _ _ _ _ c.loop-p.invariant.1 (rw c.loop-p.invariant.0 at c.in-None.ensures.steps.1)
+returns c = search-end _ _ _ _ c.loop-p.invariant.1 (rw c.loop-p.invariant.0 at c.in-None.ensures.steps.1).0

@@ -1,5 +1,5 @@
 -- `AboveZero::next` meets its contract: what it passes over is 0.
-use Rattle.std.proofs.Common.{arith}
+use Rattle.std.proofs.Common.{◌≤◌, length, arith}
 use Rattle.model.proofs.Tab.{below-or-past}
 use Rattle.owed.specs.Weights.{AreZero}
 use Rattle.owed.proofs.Passing.{passed}
@@ -14,4 +14,9 @@ pub loop-self-preserved : goal.loop-self-preserved
 loop-self-preserved c =
     let on = passed c.loop-self.self.weights.now c.loop-self.self.at c.pass_zero-self.result c.loop-self-test.true (omega (arith, c.from-weight.ensures)) c.pass_zero-self.ensures in
     let zeros : AreZero c.args.self.now.weights.now c.loop-self.self.at c.pass_zero-self.result = rw c.loop-self.invariant.0 at on.1 in
-    (c.loop-self.invariant.0, omega (arith, on.0), λ k u v. below-or-past k c.loop-self.self.at (c.loop-self.invariant.2 k u) (λ past. zeros k past v))
+    let inside : c.pass_zero-self.result ≤ length c.args.self.now.weights.now = rw c.loop-self.invariant.0 at on.2 in (
+      c.loop-self.invariant.0,
+      omega (arith, on.0),
+      λ k u v. below-or-past k c.loop-self.self.at (c.loop-self.invariant.2 k u) (λ past. zeros k past v),
+      omega arith,
+    )
