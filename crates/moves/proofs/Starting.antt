@@ -1,22 +1,23 @@
 -- A start and a start taken back, on bytes: each return of the code is a case of the rules' outcome.
 -- Assumes nothing.
 use mathlib.Core.Path.{◌≡◌, refl, sym, ap, ◌∙◌}
-use mathlib.Core.Bool.{true, false}
+use mathlib.Core.Bool.{Bool, true, false}
 use mathlib.Core.List.{List}
 use Prim.Native.Nat.{ℕ, ◌+◌, ◌-◌, ◌<◌, ◌≤◌}
 use native.Mathlib.Omega.{arith}
-use lib.Dec.{leb}
+use lib.Dec.{leb, ltb}
 use lib.ListN.{length}
 use borrow.Author.Tests.{eq-eqb, ne_eqb}
 use Rattle.model.specs.declared.net.Net.{Net as Shape}
 use Rattle.model.specs.declared.answer.Short.{Short}
-use Rattle.std.proofs.Common.{Ok, Err, Some, None}
+use Rattle.std.proofs.Common.{Option, Ok, Err, Some, None}
 use Rattle.model.specs.declared.answer.Barrier.TheVariants as barrier
 use Rattle.model.specs.declared.answer.Refusal.TheVariants as refusal
 use Rattle.model.specs.declared.event.Event.TheVariants as event
 use Rattle.model.specs.Age.{column_of}
 use Rattle.model.specs.Limits.{is_held}
-use Rattle.model.specs.Net.{count}
+use Rattle.model.specs.Tab.{lowest}
+use Rattle.model.specs.Net.{tokens, count}
 use Rattle.model.specs.Rules.{lacking_place, is_enabled, short, has_room, has_no_old_end_owed, apply, back, started, unstarted}
 use Rattle.model.proofs.Shape.{width-pos}
 use Rattle.model.proofs.Tests.{leb_tells, held_tells, told-true, told-false}
@@ -25,9 +26,11 @@ use Rattle.forms.specs.Word.{Bytes, byte, set_word, put_words}
 use Rattle.forms.specs.Places.{mark_at, count_at}
 use Rattle.forms.specs.Stored.{net_of, stored}
 use Rattle.forms.specs.Frame.{Framed}
-use Rattle.owed.specs.Marks.{FoundBelow, short_place}
+use Rattle.forms.proofs.Inside.{mark-stands}
+use Rattle.owed.specs.Marks.{FoundBelow, is_short, short_place}
 use Rattle.owed.specs.Weights.{AreWeights}
-use Rattle.owed.proofs.ModelTests.{found-lacking}
+use Rattle.owed.proofs.Passing.{same as same-byte}
+use Rattle.owed.proofs.ModelTests.{lowest-cong}
 use Rattle.moves.specs.Marking.{after_taking, after_giving, is_roomy, taken}
 use Rattle.moves.specs.After.{applied, state_taken_back, Answers}
 use Rattle.moves.proofs.Looked.{took-nothing, roomy-is}
@@ -55,6 +58,23 @@ module _ (net : List ℕ) (shape : Shape) (b : List ℕ) (f : Framed net shape b
   unfolding is_enabled
   able none = eq-eqb (lacking_place (net_of net) (stored net b) t) (net_of net).places (none ∙ f.net_framed.has_shape.places_are)
 
+  -- in ws the weights that a start takes stand from `from` on: ws may be the net, or the slice of it that the code lends
+  module _ (ws : List ℕ) (from : ℕ) (stand : (p : ℕ) → p < shape.places → byte ws (from + p) ≡ (net_of net).takes t p) where
+    -- the place that the code found to be short is the one that lacks tokens for a start
+    pub lacks-there : {r : ℕ} → r ≡ short_place ws from b shape.places → r ≡ lacking_place (net_of net) (stored net b) t
+    unfolding short_place lacking_place
+    lacks-there told =
+        let lacks : ℕ → Bool = λ p. ltb (tokens (stored net b) p) ((net_of net).takes t p) in
+        told
+        ∙ lowest-cong (is_short ws from b) lacks shape.places shape.places (λ p h. rw (stand p h, mark-stands net shape b f p h))
+        ∙ ap (λ (n : ℕ). lowest n n lacks) f.net_framed.has_shape.places_are
+
+  -- so it is with what `take` tells of them
+  found-there : (ws : List ℕ) → AreWeights shape.places ((net_of net).takes t) ws
+      → (r : Option ℕ) → FoundBelow (length ws) (short_place ws 0 b (length ws)) r → FoundBelow shape.places (lacking_place (net_of net) (stored net b) t) r
+  found-there ws are r found =
+      rw (lacks-there ws 0 (λ p l. same-byte ws p (0 + p) p (omega arith) ∙ are.1 p l) refl) at (rw are.0 at found)
+
   module _ (known : t < shape.transitions) where
     -- the code found place p, and what it lacks
     pub start-disabled : (p : ℕ) → FoundBelow shape.places (lacking_place (net_of net) (stored net b) t) (Some p)
@@ -77,7 +97,7 @@ module _ (net : List ℕ) (shape : Shape) (b : List ℕ) (f : Framed net shape b
       same = took-nothing ws b x left p found
 
       lacks : FoundBelow shape.places (lacking_place (net_of net) (stored net b) t) (Some p)
-      lacks = found-lacking net shape b f t ws are (Some p) found
+      lacks = found-there ws are (Some p) found
 
       pub asks-short : Framed net shape x × ((t < byte net 6) × (p < shape.places) × (p ≡ lacking_place (net_of net) (stored net x) t))
       asks-short = rw same (f, (known-byte net shape b f t known, lacks.0, lacks.1))
@@ -134,7 +154,7 @@ module _ (net : List ℕ) (shape : Shape) (b : List ℕ) (f : Framed net shape b
             → Answers net b (applied net false b (event.Start t)) (Ok tt) y
         unfolding apply started
         start-done none none_old held small x y ex ey =
-            simp (known-test net shape b f t known, able (found-lacking net shape b f t ws are None none), none_old, one_more stands held) (
+            simp (known-test net shape b f t known, able (found-there ws are None none), none_old, one_more stands held) (
               refl,
               raised net shape b f small t known (record { 0 = 0 }) fresh ((net_of net).takes t) ws are v stands x y (holds (held_tells (v + 1)) held) ex ey,
             )
