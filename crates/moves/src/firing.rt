@@ -8,6 +8,7 @@ ghost use Rattle.model.specs.Age.{column_of};
 ghost use Rattle.forms.specs.Word.{byte, set_word};
 ghost use Rattle.forms.specs.Places.{count_at};
 ghost use Rattle.forms.specs.Stored.{net_of, stored};
+ghost use Rattle.forms.specs.Nets.{IsNet};
 ghost use Rattle.forms.specs.States.{IsState};
 ghost use Rattle.moves.specs.After.{applied, state_taken_back, after};
 
@@ -19,13 +20,16 @@ use model::answer::{Barrier, Refusal};
 use model::net::Net;
 use owed::{counts, marks, starts, weights};
 
-// The age is in the interval of transition t.
-#[tactic(auto, unfolding(model::specs::Rules::is_timely))]
-pub fn timely(net: CheckedNet, t: usize, age: Age) -> bool
-    requires { t < net.shape.transitions }
-    ensures { result ≡ is_timely (net_of net.entry.bytes.now) t age.0 }
+// The age is in the interval of transition t. Asked of a net's bytes: it needs no shape.
+#[tactic(auto, unfolding(model::specs::Rules::is_timely, forms::specs::Stored::net_of))]
+pub fn timely(net: &[u8], t: usize, age: Age) -> bool
+    requires { IsNet net.now × (t < byte net.now 6) }
+    ensures { result ≡ is_timely (net_of net.now) t age.0 }
 {
-    (net.sfd(t)..=net.lfd(t)).contains(&(age.0 as usize))
+    let places = usize::from(net[places::PLACES_AT]);
+    let sfd = usize::from(net[places::row_at(places, t)]);
+    let lfd = usize::from(net[places::lfd_at(places, t)]);
+    (sfd..=lfd).contains(&(age.0 as usize))
 }
 
 // Transition t starts.
@@ -84,7 +88,7 @@ pub fn end(net: CheckedNet, state: &mut [u8], t: usize, age: Age) -> Result<(), 
     if net.shape.transitions <= t {
         return Err(Refusal::NoSuchTransition);
     }
-    if !timely(net, t, age) {
+    if !timely(net.bytes, t, age) {
         return Err(Refusal::OutsideInterval);
     }
     let running = counts::count(net, state, t, age);
@@ -107,7 +111,7 @@ pub fn unend(net: CheckedNet, state: &mut [u8], t: usize, age: Age) -> Result<()
     if net.shape.transitions <= t {
         return Err(Refusal::NoSuchTransition);
     }
-    if !timely(net, t, age) {
+    if !timely(net.bytes, t, age) {
         return Err(Refusal::OutsideInterval);
     }
     let running = counts::count(net, state, t, age);

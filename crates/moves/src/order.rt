@@ -180,7 +180,7 @@ fn too_late(net: CheckedNet, t: usize, age: Age) -> Refusal
     if net.shape.transitions <= t {
         return Refusal::NoSuchTransition;
     }
-    if !firing::timely(net, t, age) {
+    if !firing::timely(net.bytes, t, age) {
         return Refusal::OutsideInterval;
     }
     Refusal::OldAfterStart

@@ -1,5 +1,5 @@
 -- `firing::end` meets its contract: each return is a case of the rules' outcome.
-use Rattle.forms.proofs.CheckedNets.{framed}
+use Rattle.forms.proofs.CheckedNets.{framed_net, framed, known}
 use Rattle.std.proofs.Common.{sym, ◌∙◌, rules, arith}
 use Rattle.forms.specs.Word.{Bytes}
 use Rattle.moves.proofs.Looked.{gave, gave-nothing}
@@ -11,6 +11,9 @@ pub returns-then-net-t : goal.returns-then-net-t
 returns-then-net-t c =
     let both = end-unknown c.args.net.bytes.now c.args.net.shape c.args.state.now (framed c.args.net c.requires) c.args.t c.args.age c.if-net-t.true in
     record { value = both.0; state_after = both.1 }
+
+pub timely-requires : goal.timely-requires
+timely-requires c = ((framed_net c.args.net).is_net, known c.args.net c.if-net-t.false)
 
 pub returns-then-not-timely : goal.returns-then-not-timely
 returns-then-not-timely c =
