@@ -162,7 +162,7 @@ same-checked x y e f = λ i. record {
 }
 
 -- of one slice there is one, as there is one shape
-one_checked : (x y : CheckedNet) → x.bytes ≡ y.bytes → x ≡ y
+pub one_checked : (x y : CheckedNet) → x.bytes ≡ y.bytes → x ≡ y
 one_checked x y e = same-checked x y e (shape-once (net_of y.bytes.now) x.shape y.shape (rw e at x.has_shape) y.has_shape)
 
 pub checked-net-of-determined : Determined 1 checked-net-of-kinds.ps checked-net-of-kinds.r checked-net-of.Learnt
