@@ -3,13 +3,14 @@
 -- learns it.
 -- Assumes nothing.
 use Rattle.std.proofs.Common.{List, ℕ, Bor, Result, Ok, Err}
-use mathlib.Core.Path.{◌≡◌, sym, ◌∙◌}
+use mathlib.Core.Path.{◌≡◌, sym, ap, ◌∙◌}
 use contract.Lifetimes.{Lfts}
 use denote.Triple.Clauses.{AtExit}
 use borrow.Fn.Kinds.{Dens, res_t, ended_of}
 use Rattle.model.specs.declared.net.Net.{Net as Shape}
 use Rattle.forms.specs.declared.checked.CheckedNet.{CheckedNet}
 use Rattle.forms.specs.declared.fault.Fault.{Fault}
+use Rattle.forms.proofs.Determined.{one_checked}
 use Rattle.engine.specs.Examined.{Examined, Finds}
 use Rattle.model.proofs.Determined.{Determined, LeavesOne}
 use Rattle.engine.proofs.answers.VerdictFromResultUnitFault.from.Reads as verdict-of
@@ -30,6 +31,10 @@ use Rattle.engine.proofs.answers.OwedToldFromFault.from.Reads as owedtold-unfit
 use Rattle.engine.proofs.answers.OwedToldFromFault.from.Kinds as owedtold-unfit-kinds
 use Rattle.engine.proofs.answers.StepTold.refused.Reads as steptold-refused
 use Rattle.engine.proofs.answers.StepTold.refused.Kinds as steptold-refused-kinds
+use Rattle.engine.proofs.examine.examine_state.Reads as examine-state
+use Rattle.engine.proofs.examine.examine_state.Kinds as examine-state-kinds
+use Rattle.engine.proofs.examine.examine_log.Reads as examine-log
+use Rattle.engine.proofs.examine.examine_log.Kinds as examine-log-kinds
 use Rattle.engine.proofs.calls.check_net.Reads as check-net
 use Rattle.engine.proofs.calls.check_net.Kinds as check-net-kinds
 use Rattle.engine.proofs.calls.check_state.Reads as check-state
@@ -85,14 +90,22 @@ abbrev finding : Result CheckedNet Fault → Result (Bor (List ℕ) × Shape) Fa
 finding (Ok net) = Ok (net.bytes, net.shape)
 finding (Err why) = Err why
 
+-- what is found of some bytes is one result
+found-once : (bytes : Bor (List ℕ)) (found : Examined) (r r' : Result CheckedNet Fault) → Finds bytes found r → Finds bytes found r' → r ≡ r'
+found-once bytes found (Ok net) (Ok net') (s, b) (s', b') = ap Ok (one_checked net net' (b ∙ sym b'))
+found-once bytes found (Ok net) (Err why) (s, b) f = let e : Ok net.shape ≡ Err why = sym s ∙ f in cc
+found-once bytes found (Err why) (Ok net) f (s, b) = let e : Ok net.shape ≡ Err why = sym s ∙ f in cc
+found-once bytes found (Err why) (Err why') f f' = let e = sym f ∙ f' in cc
+
 pub finds-determined : (bytes : Bor (List ℕ)) (found : Examined) (r r' : Result CheckedNet Fault) → Finds bytes found r → Finds bytes found r'
     → finding r ≡ finding r'
-finds-determined bytes found (Ok net) (Ok net') (s, b) (s', b') =
-    let same : net.shape ≡ net'.shape = let e = sym s ∙ s' in cc in
-    λ i. Ok ((b ∙ sym b') i, same i)
-finds-determined bytes found (Ok net) (Err why) (s, b) f = let e : Ok net.shape ≡ Err why = sym s ∙ f in cc
-finds-determined bytes found (Err why) (Ok net) f (s, b) = let e : Ok net.shape ≡ Err why = sym s ∙ f in cc
-finds-determined bytes found (Err why) (Err why') f f' = let e = sym f ∙ f' in cc
+finds-determined bytes found r r' p q = ap finding (found-once bytes found r r' p q)
+
+pub examine-state-determined : Determined 2 examine-state-kinds.ps examine-state-kinds.r examine-state.Learnt
+examine-state-determined κs args x y s s' p q = found-once _ _ x y p q
+
+pub examine-log-determined : Determined 3 examine-log-kinds.ps examine-log-kinds.r examine-log.Learnt
+examine-log-determined κs args x y s s' p q = found-once _ _ x y p q
 
 pub check-net-determined : Determined 1 check-net-kinds.ps check-net-kinds.r check-net.Learnt
 check-net-determined κs args x y s s' p q = p.0 ∙ sym q.0
