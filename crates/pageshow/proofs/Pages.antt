@@ -3,8 +3,8 @@
 use mathlib.Core.Path.{◌≡◌, refl, sym, ap, ◌∙◌}
 use mathlib.Core.Bool.{false}
 use mathlib.Core.List.{List}
-use Prim.Native.Nat.{ℕ, ◌+◌, ◌*◌}
-use lib.ListN.{take}
+use Prim.Native.Nat.{ℕ, ◌+◌, ◌*◌, ◌≤◌}
+use lib.ListN.{length, take}
 use borrow.Author.Tests.{eq-eqb}
 use Rattle.model.specs.declared.answer.Short.{Short}
 use Rattle.model.specs.Answer.{nothing_short}
@@ -18,11 +18,13 @@ use Rattle.engine.specs.Calls.{initial_told, initial_left, owed_told}
 use Rattle.engine.specs.Promised.{InitialPromise}
 use Rattle.engine.specs.Promised.Promise.{at_fault, in_form}
 use Rattle.runner.specs.declared.call.PageTold.{PageTold}
+use Rattle.runner.specs.Call.{state_left, log_left}
 use Rattle.runner.specs.Promised.{PageBuilt, PagePromise}
 use Rattle.replay.specs.Replayed.{is_early, standing_after, replayed, replay_left}
+use Rattle.replay.specs.Lines.{LateShown}
 use Rattle.replay.proofs.Shown.{not-both, fault-early}
 use Rattle.pageshow.specs.declared.build.Built.{Built}
-use Rattle.pageshow.specs.Built.{AsRun, AsReplayed}
+use Rattle.pageshow.specs.Built.{built_from, built, built_state, built_log, AsRun, AsReplayed}
 use Rattle.pageshow.proofs.Joined.{net-found, log-found}
 
 fault-told : (why : Fault) → ¬ (number_of_fault why ≡ 0)
@@ -56,3 +58,15 @@ module _ (net state : List ℕ) (v : Verdict) (begun : List ℕ) where
       let is = is_net promise z in
       let written = take r.log log' in
       rw (net-found net written is, log-found net written is, ← told, ← left, eq-eqb v.number 0 z) (as-run e)
+
+  -- the page from there is the page of the net, with all that is told of it
+  module _ (promise : InitialPromise net state v begun) (told : v ≡ initial_told net state) (left : begun ≡ initial_left net state) (log : List ℕ) (budget : ℕ) where
+    pub net-built : v.number ≡ 0 → (r : Built) (state' log' : List ℕ)
+        → r ≡ built_from net begun log budget → state' ≡ state_left net begun log budget → log' ≡ log_left net begun log budget
+        → (r.log ≤ length log') × LateShown r.told.number state' → AsRun net begun r state' log'
+        → (r ≡ built net state log budget) × ((state' ≡ built_state net state log budget) × ((log' ≡ built_log net state log budget)
+        × (((r.log ≤ length log') × LateShown r.told.number state') × AsReplayed net state r state' log')))
+    unfolding built built_state built_log
+    net-built z r state' log' t s l fits as-run =
+        let shown : AsReplayed net state r state' log' = as_replayed promise told left z r state' log' as-run in
+        rw (← told, ← left, eq-eqb v.number 0 z) (t, (s, (l, (fits, shown))))
