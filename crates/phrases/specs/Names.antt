@@ -2,24 +2,24 @@
 -- Assumes nothing.
 use Rattle.std.specs.Prelude.{Bool, false, ◌&&◌, not, cond, List, [], ◌∷◌, ℕ, ◌+◌, ◌*◌, ◌-◌, ◌<◌, ◌≤◌, eqb, leb, length, take, drop, Option, Some, None, is_none}
 use Rattle.std.specs.List.{list_all, slice_split}
-use Rattle.std.specs.declared.ops.Range.{Range}
 use Rattle.phrases.specs.declared.names.Kind.{Kind}
 use Rattle.phrases.specs.declared.names.Kind.TheVariants as kind
+use Rattle.phrases.specs.declared.names.Named.{Named}
 use Rattle.phrases.specs.declared.names.Thing.{Thing}
 use Rattle.phrases.specs.Bytes.{byte, starts_with}
 
 -- LINES
 
 -- from one place of the file to another
-abbrev pub part : ℕ → ℕ → Range ℕ
-part from to = record { start = from; end = to }
+abbrev pub part : ℕ → ℕ → Named
+part from to = record { from = from; to = to }
 
 -- the bytes of a part
-abbrev pub bytes_in : List ℕ → Range ℕ → List ℕ
-bytes_in names p = take (p.end - p.start) (drop p.start names)
+abbrev pub bytes_in : List ℕ → Named → List ℕ
+bytes_in names p = take (p.to - p.from) (drop p.from names)
 
 -- of a part that may be none: no bytes
-abbrev pub bytes_of : List ℕ → Option (Range ℕ) → List ℕ
+abbrev pub bytes_of : List ℕ → Option Named → List ℕ
 bytes_of names None = []
 bytes_of names (Some p) = bytes_in names p
 
@@ -115,7 +115,7 @@ name_length None = 0
 name_length (Some t) = length t.name
 
 -- the name in the first of these lines, of which the first begins at `from`, that names this thing; it stands at its line's end
-unfoldable pub name_in : List ℕ → ℕ → ℕ → List (List ℕ) → Option (Range ℕ)
+unfoldable pub name_in : List ℕ → ℕ → ℕ → List (List ℕ) → Option Named
 name_in word number from [] = None
 name_in word number from (l ∷ ls) =
     cond (does_name (thing_in l word) number)
@@ -123,7 +123,7 @@ name_in word number from (l ∷ ls) =
     (name_in word number (from + length l + 1) ls)
 
 -- in all lines
-unfoldable pub name_by : List ℕ → List ℕ → ℕ → Option (Range ℕ)
+unfoldable pub name_by : List ℕ → List ℕ → ℕ → Option Named
 name_by names word number = name_in word number 0 (lines_of names)
 
 -- of a place or a transition
@@ -131,7 +131,7 @@ abbrev pub word_of : Kind → List ℕ
 word_of kind.Place = place_word
 word_of kind.Transition = transition_word
 
-abbrev pub name_of : List ℕ → Kind → ℕ → Option (Range ℕ)
+abbrev pub name_of : List ℕ → Kind → ℕ → Option Named
 name_of names k number = name_by names (word_of k) number
 
 -- a name has 1 to 40 bytes, and no more than what it stands in
@@ -139,5 +139,5 @@ abbrev pub FitsIn : List ℕ → List ℕ → Type 0
 FitsIn name line = (0 < length name) × (length name ≤ name_most) × (length name ≤ length line)
 
 -- a part of a file of so many bytes that has 1 to 40 bytes
-abbrev pub IsPart : Range ℕ → ℕ → Type 0
-IsPart p n = (p.start < p.end) × (p.end ≤ n) × (p.end ≤ p.start + name_most)
+abbrev pub IsPart : Named → ℕ → Type 0
+IsPart p n = (p.from < p.to) × (p.to ≤ n) × (p.to ≤ p.from + name_most)

@@ -4,8 +4,6 @@ ghost use Rattle.std.specs.Prelude.{◌≡◌, ◌<◌, ◌≤◌, length, IfSom
 ghost use Rattle.std.specs.Option.{option_map};
 ghost use Rattle.phrases.specs.Names.{are_all_visible, is_name, word_of, shown, named, thing_of, thing_in, is_bad, next_bad, name_of, FitsIn, IsPart};
 
-use std::ops::Range;
-
 // A number is at most this.
 const NUMBER_MOST: usize = 63;
 
@@ -31,6 +29,13 @@ impl Kind {
     }
 }
 
+// The part of the file that is a name.
+#[derive(Clone, Copy)]
+pub struct Named {
+    pub from: usize,
+    pub to: usize,
+}
+
 // What a line says.
 #[derive(Clone, Copy)]
 struct Thing<'a> {
@@ -52,7 +57,7 @@ pub fn next_bad(names: &[u8], after: usize) -> Option<usize>
 }
 
 // The part of the file that is the name of this place or transition. (`split` does not tell where a line stands: its place is counted.)
-pub fn name_of(names: &[u8], kind: Kind, number: usize) -> Option<Range<usize>>
+pub fn name_of(names: &[u8], kind: Kind, number: usize) -> Option<Named>
     ensures value { result ≡ name_of names.now kind number }
     ensures bounds { IfSome result (λ name. IsPart name (length names.now)) }
 {
@@ -62,7 +67,10 @@ pub fn name_of(names: &[u8], kind: Kind, number: usize) -> Option<Range<usize>>
         if let Some(thing) = thing_in(line, kind)
             && thing.number == number
         {
-            return Some(end - thing.name.len()..end);
+            return Some(Named {
+                from: end - thing.name.len(),
+                to: end,
+            });
         }
         from = end + 1;
     }

@@ -66,5 +66,5 @@ fn put_named(out: &mut [u8], at: usize, number: usize, kind: Kind, names: &[u8])
         return end;
     };
     let behind = line::put_byte(out, end, b' ');
-    line::put_bytes(out, behind, &names[name])
+    line::put_bytes(out, behind, &names[name.from..name.to])
 }
