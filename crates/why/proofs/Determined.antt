@@ -6,6 +6,8 @@ use Prim.Native.Nat.{ℕ}
 use contract.Lifetimes.{Lfts}
 use denote.Triple.Clauses.{AtExit}
 use borrow.Fn.Kinds.{Dens, res_t, ended_of}
+use mir.Syntax.{w64}
+use mir.Val.{Fits}
 use Rattle.model.proofs.Determined.{Determined, LeavesOne}
 use Rattle.why.specs.declared.telling.Telling.{Telling}
 use Rattle.why.specs.declared.cursor.StepPart.{StepPart}
@@ -16,10 +18,16 @@ use Rattle.why.specs.declared.cursor.Cursor.{Cursor}
 use Rattle.why.specs.declared.cursor.Said.{Said}
 use Rattle.why.specs.Found.{left_behind}
 use Rattle.why.specs.Said.{open_said, Kept, StepsTo, GoesOn}
+use Rattle.why.proofs.phrase.Phrase.new.Reads as new
+use Rattle.why.proofs.phrase.Phrase.new.Kinds as new-kinds
 use Rattle.why.proofs.telling.begin.Reads as begin
 use Rattle.why.proofs.telling.begin.Kinds as begin-kinds
 use Rattle.why.proofs.telling.Telling.next.Reads as next
 use Rattle.why.proofs.telling.Telling.next.Kinds as next-kinds
+
+-- whatever the number of numbers that are given
+pub new-determined : (N : ℕ) (fits : Fits w64 N) → Determined 1 (new-kinds.ps N fits) (new-kinds.r N fits) (new.Learnt N fits)
+new-determined N fits κs args x y s s' p q = p ∙ sym q
 
 pub begin-determined : Determined 3 begin-kinds.ps begin-kinds.r begin.Learnt
 begin-determined κs args x y s s' p q = p.0 ∙ sym q.0
