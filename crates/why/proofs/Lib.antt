@@ -6,3 +6,4 @@ pub mod Beginning
 pub mod Ready
 pub mod Whole
 pub mod Determined
+pub mod Belongs
