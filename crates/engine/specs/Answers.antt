@@ -2,7 +2,7 @@
 -- and its shortage.
 -- Assumes nothing.
 use Rattle.std.specs.Prelude.{cond, ℕ, ◌+◌, ◌-◌, ltb, Option, Some, None}
-use Rattle.std.specs.declared.ops.Range.{Range}
+use Rattle.logs.specs.declared.steps.Span.{Span}
 use Rattle.model.specs.declared.answer.Refusal.TheVariants as refusal
 use Rattle.model.specs.Answer.{Answer, nothing_short, number_of as number_of_answer, short_of, number_of_refusal, number_of_standing}
 use Rattle.model.specs.Net.{Net, State}
@@ -76,6 +76,6 @@ abbrev pub tells_step : ℕ → ℕ → ℕ → StepTold
 tells_step number start length = record { number = number; index = 0; start = start; length = length }
 
 -- where it stands in the log, whose events follow its fifth byte; 23 where there is no such step
-abbrev pub step_of : Option (Range ℕ) → StepTold
+abbrev pub step_of : Option Span → StepTold
 step_of (Some span) = tells_step 0 (event_at 0 + span.start) (span.end - span.start)
 step_of None = tells_step 23 0 0
