@@ -79,8 +79,7 @@ abbrev pub BelongsIf : Found → LastFound → Option Cursor → Type 0
 BelongsIf found l None = NothingAsked
 BelongsIf found l (Some c) = BelongsAt found l c.part
 
--- a walk that is told, and comes to the log's front, ends in another state than the initial one: for the state that the log leads to from there
--- is the last state (`LogBack` and `LogRun` of the engine)
+-- a walk that is told, and comes to the log's front, ends in another state than the initial one (`Elsewhere` proves it of what is found)
 abbrev pub EndsElsewhere : Found → LastFound → Type 0
 EndsElsewhere found back.NotGiven = NothingAsked
 EndsElsewhere found (back.NotFit check expected) = NothingAsked

@@ -7,3 +7,4 @@ pub mod Ready
 pub mod Whole
 pub mod Determined
 pub mod Belongs
+pub mod Elsewhere
