@@ -1,10 +1,12 @@
 -- What a request has behind its first byte, which says the call (docs/ASK.md).
 -- Assumes nothing.
-use Rattle.std.specs.Prelude.{Bool, List, ◌++◌, ℕ, length}
+use Rattle.std.specs.Prelude.{◌≡◌, ◌≢◌, ℕ, ◌^◌, ◌<◌, ◌≤◌, Bool, List, ◌++◌, length, ⊤, Option, None, Some, Result, IfErr}
 use Rattle.std.specs.Int.{w32, to_be_bytes}
 use Rattle.model.specs.Tab.{one_if}
 use Rattle.menuask.specs.declared.call.Call.{Call}
 use Rattle.menuask.specs.declared.call.Call.TheVariants as call
+use Rattle.menuask.specs.declared.request.RequestError.{RequestError}
+use Rattle.menuask.specs.declared.request.RequestError.TheVariants.{Bad, Failed}
 
 -- a net or a state of a request has at most so many bytes: more than any lawful one, so that longer ones can be asked about
 abbrev pub slice_most : ℕ
@@ -61,3 +63,63 @@ bytes_of (call.Walk events started) net state third = both_bytes net state ++ sl
 bytes_of (call.Step step) net state third = slice_bytes third ++ number_bytes step
 bytes_of (call.Page budget) net state third = both_bytes net state ++ slice_bytes third ++ number_bytes budget
 bytes_of call.Balance net state third = both_bytes net state ++ slice_bytes third
+
+-- the numbers that an event may be asked with: its bytes are bytes, and whether a start has happened is said by 0 or 1
+abbrev pub IsEvent : ℕ → ℕ → ℕ → Type 0
+IsEvent first second started = (first ≤ 255) × (second ≤ 255) × (started ≤ 1)
+
+-- there is such a call: the bytes of an event are bytes, and a number has four
+abbrev pub IsCall : Call → Type 0
+IsCall (call.Event first second started) = (first ≤ 255) × (second ≤ 255)
+IsCall (call.Back first second started) = (first ≤ 255) × (second ≤ 255)
+IsCall (call.Degree transition) = transition < 2 ^ 32
+IsCall (call.Walk events started) = events < 2 ^ 32
+IsCall (call.Step step) = step < 2 ^ 32
+IsCall (call.Page budget) = budget < 2 ^ 32
+IsCall _ = ⊤
+
+-- the lengths are 0 of the slices that a call does not have
+abbrev pub HasNoOther : Call → ℕ → ℕ → ℕ → Type 0
+HasNoOther call.CheckNet net state third = (state ≡ 0) × (third ≡ 0)
+HasNoOther (call.Run started) net state third = ⊤
+HasNoOther (call.Walk events started) net state third = ⊤
+HasNoOther (call.Step step) net state third = (net ≡ 0) × (state ≡ 0)
+HasNoOther (call.Page budget) net state third = ⊤
+HasNoOther call.Balance net state third = ⊤
+HasNoOther _ net state third = third ≡ 0
+
+-- a slice may be sent for a buffer: there is room for it, and its length has four bytes
+abbrev pub HasRoom : List ℕ → List ℕ → Type 0
+HasRoom buffer slice = (length slice ≤ length buffer) × (length slice < 2 ^ 32)
+
+-- the known bytes do not begin with bs
+abbrev pub Lacks : Option (List ℕ) → List ℕ → Type 0
+Lacks None bs = ⊤
+Lacks (Some xs) bs = (rest : List ℕ) → xs ≢ bs ++ rest
+
+-- no number stands there, no slice for that buffer, and no net and state
+abbrev pub NoNumber : Option (List ℕ) → Type 0
+NoNumber known = (n : ℕ) → Lacks known (number_bytes n)
+
+abbrev pub NoSlice : Option (List ℕ) → List ℕ → Type 0
+NoSlice known buffer = (slice : List ℕ) → HasRoom buffer slice → Lacks known (slice_bytes slice)
+
+abbrev pub NoBoth : Option (List ℕ) → List ℕ → List ℕ → Type 0
+NoBoth known nets states = (net state : List ℕ) → HasRoom nets net → HasRoom states state → Lacks known (both_bytes net state)
+
+-- no numbers of an event
+abbrev pub NoEvent : Option (List ℕ) → Type 0
+NoEvent known = (first second : ℕ) (started : Bool) → first ≤ 255 → second ≤ 255 → Lacks known (event_bytes first second started)
+
+-- and nothing that may be asked by that byte, with slices for these buffers
+abbrev pub NoRequest : Option (List ℕ) → ℕ → List ℕ → List ℕ → List ℕ → Type 0
+NoRequest known code nets states thirds = (call : Call) (net state third : List ℕ) → code_of call ≡ code → IsCall call
+    → HasRoom nets net → HasRoom states state → HasRoom thirds third → Lacks known (bytes_of call net state third)
+
+-- a request that is bad says p; a read that failed says nothing
+abbrev pub OnBad : RequestError → Type 0 → Type 0
+OnBad Bad p = p
+OnBad (Failed e) p = ⊤
+
+abbrev pub IfBad : {A : Type 0} → Result A RequestError → Type 0 → Type 0
+IfBad result p = IfErr result (λ why. OnBad why p)

@@ -6,6 +6,9 @@ mod answer;
 mod call;
 mod request;
 
+ghost use Rattle.std.specs.Prelude.{◌≡◌, length};
+ghost use Rattle.menuask.specs.Requests.{slice_most, third_most};
+
 use request::{RequestError, SLICE_MOST, Slices, THIRD_MOST};
 use std::io;
 use std::io::{Read, Write};
@@ -19,22 +22,20 @@ fn serve<R: Read, W: Write>(
     to: &mut W,
     slices: &mut Slices,
     line: &mut [u8; LINE_MOST],
-) -> io::Result<bool> {
+) -> io::Result<bool>
+    requires { (length slices.old.net.now ≡ slice_most) × (length slices.old.state.now ≡ slice_most) × (length slices.old.third.now ≡ third_most) }
+    ensures { (length slices.new.net.now ≡ slice_most) × (length slices.new.state.now ≡ slice_most) × (length slices.new.third.now ≡ third_most) }
+{
     let mut code = [0u8; 1];
     if streams::read_full(from, &mut code)? == 0 {
         return Ok(false);
     }
     match request::read(from, code[0], slices) {
         Ok(request) => {
-            let state = &mut slices.state[..];
-            let third = &mut slices.third[..];
-            let end = answer::answer(
-                line,
-                request.call,
-                &slices.net[..request.net],
-                &mut state[..request.state],
-                &mut third[..request.third],
-            );
+            let net = &mut slices.net[..request.net];
+            let state = &mut slices.state[..request.state];
+            let third = &mut slices.third[..request.third];
+            let end = answer::answer(line, request.call, net, state, third);
             to.write_all(&line[..end])?;
             Ok(true)
         }
@@ -52,7 +53,9 @@ fn serve_all<R: Read, W: Write>(
     to: &mut W,
     slices: &mut Slices,
     line: &mut [u8; LINE_MOST],
-) -> io::Result<()> {
+) -> io::Result<()>
+    requires { (length slices.old.net.now ≡ slice_most) × (length slices.old.state.now ≡ slice_most) × (length slices.old.third.now ≡ third_most) }
+{
     for _ in 0..u64::MAX {
         if !serve(from, to, slices, line)? {
             break;
@@ -62,10 +65,13 @@ fn serve_all<R: Read, W: Write>(
 }
 
 fn main(rt: HostRuntime) -> io::Result<()> {
+    let mut net = [0; SLICE_MOST];
+    let mut state = [0; SLICE_MOST];
+    let mut third = [0; THIRD_MOST];
     let mut slices = Slices {
-        net: [0; SLICE_MOST],
-        state: [0; SLICE_MOST],
-        third: [0; THIRD_MOST],
+        net: &mut net,
+        state: &mut state,
+        third: &mut third,
     };
     let mut line = [0; LINE_MOST];
     serve_all(&mut rt.stdin(), &mut rt.stdout(), &mut slices, &mut line)

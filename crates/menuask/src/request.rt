@@ -1,8 +1,10 @@
 // Requests, as docs/ASK.md sets them down, read part by part.
-ghost use Rattle.std.specs.Prelude.{◌≡◌, ◌≤◌, ◌++◌, length, take, IfOk};
+ghost use Rattle.std.specs.Prelude.{◌≡◌, ◌^◌, ◌<◌, ◌≤◌, ◌++◌, length, take, IfOk, MatchResult};
 ghost use Rattle.std.specs.Io.KnownBytes.{Consumes};
-ghost use Rattle.menuask.specs.declared.request.RequestError.TheVariants.{Failed};
-ghost use Rattle.menuask.specs.Requests.{slice_most, third_most, code_of, bytes_of, number_bytes, slice_bytes, both_bytes, flag_bytes};
+ghost use Rattle.model.specs.Tab.{one_if};
+ghost use Rattle.menuask.specs.declared.request.RequestError.TheVariants.{Bad, Failed};
+ghost use Rattle.menuask.specs.Requests.{code_of, IsCall, HasNoOther, bytes_of, number_bytes, slice_bytes, both_bytes, flag_bytes};
+ghost use Rattle.menuask.specs.Requests.{IsEvent, NoNumber, NoSlice, NoBoth, NoEvent, NoRequest, IfBad};
 
 use crate::call::Call;
 use std::io;
@@ -14,12 +16,12 @@ pub const SLICE_MOST: usize = 16384;
 // And the third slice so many: a log, the buffer for one, or weights.
 pub const THIRD_MOST: usize = 65536;
 
-// Room for the slices of a request, which stand at the front.
+// Room for the slices of a request, which stand at the front. A slice for which there is no room is bad.
 #[derive(Drop)]
-pub struct Slices {
-    pub net: [u8; SLICE_MOST],
-    pub state: [u8; SLICE_MOST],
-    pub third: [u8; THIRD_MOST],
+pub struct Slices<'a> {
+    pub net: &'a mut [u8],
+    pub state: &'a mut [u8],
+    pub third: &'a mut [u8],
 }
 
 // A call, and the lengths of the slices that it is asked with, which stand at the front of their buffers; 0 for one that it does not have. The third
@@ -62,7 +64,9 @@ impl From<io::Error> for RequestError {
 
 // A number: four bytes.
 fn number<R: Read>(from: &mut R) -> Result<usize, RequestError>
-    ensures { IfOk result (λ n. Consumes (R.remaining from.old) (R.remaining from.new) (number_bytes n)) }
+    ensures bytes { IfOk result (λ n. Consumes (R.remaining from.old) (R.remaining from.new) (number_bytes n)) }
+    ensures in_range { IfOk result (λ n. n < 2 ^ 32) }
+    ensures bad { IfBad result (NoNumber (R.remaining from.old)) }
 {
     let mut four = [0u8; 4];
     if streams::read_full(from, &mut four)? < four.len() {
@@ -72,7 +76,8 @@ fn number<R: Read>(from: &mut R) -> Result<usize, RequestError>
 }
 
 fn number_of(four: [u8; 4]) -> usize
-    ensures { number_bytes result ≡ four }
+    ensures bytes { number_bytes result ≡ four }
+    ensures in_range { result < 2 ^ 32 }
 {
     u32::from_be_bytes(four) as usize
 }
@@ -80,11 +85,16 @@ fn number_of(four: [u8; 4]) -> usize
 // A slice: its length, and as many bytes, put at the front of the buffer.
 fn slice<R: Read>(from: &mut R, into: &mut [u8]) -> Result<usize, RequestError>
     ensures in_bounds { IfOk result (λ n. n ≤ length into.new) }
+    ensures in_range { IfOk result (λ n. n < 2 ^ 32) }
     ensures bytes { IfOk result (λ n. Consumes (R.remaining from.old) (R.remaining from.new) (slice_bytes (take n into.new))) }
+    ensures bad { IfBad result (NoSlice (R.remaining from.old) into.old) }
     ensures len_unchanged { length into.new ≡ length into.old }
 {
     let n = number(from)?;
-    if into.len() < n || streams::read_full(from, &mut into[..n])? < n {
+    if into.len() < n {
+        return Err(RequestError::Bad);
+    }
+    if streams::read_full(from, &mut into[..n])? < n {
         return Err(RequestError::Bad);
     }
     Ok(n)
@@ -92,7 +102,8 @@ fn slice<R: Read>(from: &mut R, into: &mut [u8]) -> Result<usize, RequestError>
 
 // Whether a start has happened in the step.
 fn flag(n: usize) -> Result<bool, RequestError>
-    ensures { IfOk result (λ started. flag_bytes started ≡ number_bytes n) }
+    ensures bytes { IfOk result (λ started. flag_bytes started ≡ number_bytes n) }
+    ensures value { MatchResult result (λ started. n ≡ one_if started) (λ why. (why ≡ Bad) × (1 < n)) }
 {
     match n {
         0 => Ok(false),
@@ -101,40 +112,57 @@ fn flag(n: usize) -> Result<bool, RequestError>
     }
 }
 
-// The two bytes of an event, and whether a start has happened in the step. All three are read before they are looked at.
-fn event<R: Read>(from: &mut R) -> Result<(u8, u8, bool), RequestError>
-    ensures { IfOk result (λ r. Consumes (R.remaining from.old) (R.remaining from.new) (number_bytes r.0 ++ number_bytes r.1 ++ flag_bytes r.2)) }
+// What three numbers say of an event: its two bytes, and whether a start has happened in the step.
+fn event_of(first: usize, second: usize, started: usize) -> Result<(u8, u8, bool), RequestError>
+    ensures { MatchResult result (λ r. (r.0 ≡ first) × (r.1 ≡ second) × (one_if r.2 ≡ started)) (λ why. (why ≡ Bad) × ¬ (IsEvent first second started)) }
 {
-    let first = number(from)?;
-    let second = number(from)?;
-    let started = number(from)?;
     match (u8::try_from(first), u8::try_from(second)) {
         (Ok(first), Ok(second)) => Ok((first, second, flag(started)?)),
         _ => Err(RequestError::Bad),
     }
 }
 
+// The numbers of an event. All three are read before they are looked at.
+fn event<R: Read>(from: &mut R) -> Result<(u8, u8, bool), RequestError>
+    ensures bytes { IfOk result (λ r. Consumes (R.remaining from.old) (R.remaining from.new) (number_bytes r.0 ++ number_bytes r.1 ++ flag_bytes r.2)) }
+    ensures bad { IfBad result (NoEvent (R.remaining from.old)) }
+{
+    let first = number(from)?;
+    let second = number(from)?;
+    let started = number(from)?;
+    event_of(first, second, started)
+}
+
 // A net and a state.
 fn both<R: Read>(from: &mut R, slices: &mut Slices) -> Result<(usize, usize), RequestError>
-    ensures in_bounds { IfOk result (λ n. (n.0 ≤ slice_most) × (n.1 ≤ slice_most)) }
-    ensures bytes { IfOk result (λ n. Consumes (R.remaining from.old) (R.remaining from.new) (both_bytes (take n.0 slices.new.net) (take n.1 slices.new.state))) }
-    ensures third_after { slices.new.third ≡ slices.old.third }
+    ensures in_bounds { IfOk result (λ n. (n.0 ≤ length slices.new.net.now) × (n.1 ≤ length slices.new.state.now)) }
+    ensures in_range { IfOk result (λ n. (n.0 < 2 ^ 32) × (n.1 < 2 ^ 32)) }
+    ensures bytes { IfOk result (λ n. Consumes (R.remaining from.old) (R.remaining from.new) (both_bytes (take n.0 slices.new.net.now) (take n.1 slices.new.state.now))) }
+    ensures bad { IfBad result (NoBoth (R.remaining from.old) slices.old.net.now slices.old.state.now) }
+    ensures len_unchanged { (length slices.new.net.now ≡ length slices.old.net.now) × (length slices.new.state.now ≡ length slices.old.state.now) }
+    ensures third_after { slices.new.third.now ≡ slices.old.third.now }
+    ensures same_references { (slices.new.net.ghost_name ≡ slices.old.net.ghost_name) × (slices.new.state.ghost_name ≡ slices.old.state.ghost_name) × (slices.new.third.ghost_name ≡ slices.old.third.ghost_name) }
 {
-    let net = slice(from, &mut slices.net)?;
-    let state = slice(from, &mut slices.state)?;
+    let net = slice(from, slices.net)?;
+    let state = slice(from, slices.state)?;
     Ok((net, state))
 }
 
 // What follows the byte of a call: its slices and numbers. A read that fails is an error too.
 pub fn read<R: Read>(from: &mut R, code: u8, slices: &mut Slices) -> Result<Request, RequestError>
-    ensures call { IfOk result (λ request. code_of request.call ≡ code) }
+    ensures call { IfOk result (λ request. (code_of request.call ≡ code) × IsCall request.call) }
     ensures bytes { IfOk result (λ request. Consumes (R.remaining from.old) (R.remaining from.new)
-        (bytes_of request.call (take request.net slices.new.net) (take request.state slices.new.state) (take request.third slices.new.third))) }
-    ensures in_bounds { IfOk result (λ request. (request.net ≤ slice_most) × (request.state ≤ slice_most) × (request.third ≤ third_most)) }
+        (bytes_of request.call (take request.net slices.new.net.now) (take request.state slices.new.state.now) (take request.third slices.new.third.now))) }
+    ensures in_bounds { IfOk result (λ request. (request.net ≤ length slices.new.net.now) × (request.state ≤ length slices.new.state.now) × (request.third ≤ length slices.new.third.now)) }
+    ensures in_range { IfOk result (λ request. (request.net < 2 ^ 32) × (request.state < 2 ^ 32) × (request.third < 2 ^ 32)) }
+    ensures no_other { IfOk result (λ request. HasNoOther request.call request.net request.state request.third) }
+    ensures bad { IfBad result (NoRequest (R.remaining from.old) code slices.old.net.now slices.old.state.now slices.old.third.now) }
+    ensures len_unchanged { (length slices.new.net.now ≡ length slices.old.net.now) × (length slices.new.state.now ≡ length slices.old.state.now) × (length slices.new.third.now ≡ length slices.old.third.now) }
+    ensures same_references { (slices.new.net.ghost_name ≡ slices.old.net.ghost_name) × (slices.new.state.ghost_name ≡ slices.old.state.ghost_name) × (slices.new.third.ghost_name ≡ slices.old.third.ghost_name) }
 {
     match code {
         1 => {
-            let net = slice(from, &mut slices.net)?;
+            let net = slice(from, slices.net)?;
             Ok(Request::new(Call::CheckNet, net, 0, 0))
         }
         2 => {
@@ -184,31 +212,31 @@ pub fn read<R: Read>(from: &mut R, code: u8, slices: &mut Slices) -> Result<Requ
         }
         8 => {
             let (net, state) = both(from, slices)?;
-            let third = slice(from, &mut slices.third)?;
+            let third = slice(from, slices.third)?;
             let started = flag(number(from)?)?;
             Ok(Request::new(Call::Run { started }, net, state, third))
         }
         9 => {
             let (net, state) = both(from, slices)?;
-            let third = slice(from, &mut slices.third)?;
+            let third = slice(from, slices.third)?;
             let events = number(from)?;
             let started = flag(number(from)?)?;
             Ok(Request::new(Call::Walk { events, started }, net, state, third))
         }
         10 => {
-            let third = slice(from, &mut slices.third)?;
+            let third = slice(from, slices.third)?;
             let step = number(from)?;
             Ok(Request::new(Call::Step { step }, 0, 0, third))
         }
         11 => {
             let (net, state) = both(from, slices)?;
-            let third = slice(from, &mut slices.third)?;
+            let third = slice(from, slices.third)?;
             let budget = number(from)?;
             Ok(Request::new(Call::Page { budget }, net, state, third))
         }
         12 => {
             let (net, state) = both(from, slices)?;
-            let third = slice(from, &mut slices.third)?;
+            let third = slice(from, slices.third)?;
             Ok(Request::new(Call::Balance, net, state, third))
         }
         _ => Err(RequestError::Bad),
