@@ -1,8 +1,8 @@
 // The file of names: a line for each named place and transition, `place N NAME` or `transition N NAME`. Where two lines name the same thing the
 // first one counts, so that a file can be put in front of another.
-ghost use Rattle.std.specs.Prelude.{◌≡◌, ◌<◌, ◌≤◌, length, IfSome};
+ghost use Rattle.std.specs.Prelude.{◌≡◌, ◌<◌, ◌≤◌, [], ◌∷◌, length, IfSome};
 ghost use Rattle.std.specs.Option.{option_map};
-ghost use Rattle.phrases.specs.Names.{are_all_visible, is_name, word_of, shown, named, thing_of, thing_in, is_bad, next_bad, name_of, FitsIn, IsPart};
+ghost use Rattle.phrases.specs.Names.{are_all_visible, is_name, word_of, shown, named, thing_of, thing_in, is_bad, is_due, next_bad, part, bytes_in, name_in, name_of, FitsIn, IsPart};
 
 // A number is at most this.
 const NUMBER_MOST: usize = 63;
@@ -43,38 +43,68 @@ struct Thing<'a> {
     name: &'a [u8],
 }
 
-// The number of the lowest bad line above `after`, counted from 1.
+// The number of the lowest bad line above `after`, counted from 1. (Of the lines up to there only the ends are looked at.)
 pub fn next_bad(names: &[u8], after: usize) -> Option<usize>
     ensures value { result ≡ next_bad names.now after }
     ensures bounds { IfSome result (λ line. (after < line) × (line ≤ length names.now)) }
 {
-    names
-        .split(|b| *b == b'\n')
-        .enumerate()
-        .skip(after)
-        .find(|(_, line)| is_bad(line))
-        .map(|(before, _)| before + 1)
+    let mut from = 0;
+    let mut before = 0;
+    for (end, byte) in names.iter().enumerate() {
+        if *byte == b'\n' {
+            if is_due(&names[from..end], before, after) {
+                return Some(before + 1);
+            }
+            from = end + 1;
+            before += 1;
+        }
+    }
+    is_due(&names[from..], before, after).then_some(before + 1)
 }
 
-// The part of the file that is the name of this place or transition. (`split` does not tell where a line stands: its place is counted.)
+// The part of the file that is the name of this place or transition. (It is looked for each time that the thing is told: one walk over the bytes costs
+// less than `split`, most of all in a file of many short lines.)
 pub fn name_of(names: &[u8], kind: Kind, number: usize) -> Option<Named>
     ensures value { result ≡ name_of names.now kind number }
     ensures bounds { IfSome result (λ name. IsPart name (length names.now)) }
 {
     let mut from = 0;
-    for line in names.split(|b| *b == b'\n') {
-        let end = from + line.len();
-        if let Some(thing) = thing_in(line, kind)
-            && thing.number == number
-        {
-            return Some(Named {
-                from: end - thing.name.len(),
-                to: end,
-            });
+    for (end, byte) in names.iter().enumerate() {
+        if *byte == b'\n' {
+            if let Some(name) = name_between(names, from, end, kind, number) {
+                return Some(name);
+            }
+            from = end + 1;
         }
-        from = end + 1;
+    }
+    name_between(names, from, names.len(), kind, number)
+}
+
+// The same, in the line that stands between these places: the name is at its end.
+#[inline(always)]
+fn name_between(names: &[u8], from: usize, end: usize, kind: Kind, number: usize) -> Option<Named>
+    requires { (from ≤ end) × (end ≤ length names.now) }
+    ensures value { result ≡ name_in (word_of kind) number from (bytes_in names.now (part from end) ∷ []) }
+    ensures bounds { IfSome result (λ name. IsPart name (length names.now)) }
+{
+    if let Some(thing) = thing_in(&names[from..end], kind)
+        && thing.number == number
+    {
+        return Some(Named {
+            from: end - thing.name.len(),
+            to: end,
+        });
     }
     None
+}
+
+// The line is bad, and its number is above `after`: so many lines stand before it.
+#[inline(always)]
+#[tactic(auto, unfolding(crate::specs::Names::is_due))]
+fn is_due(line: &[u8], before: usize, after: usize) -> bool
+    ensures { result ≡ is_due after before line.now }
+{
+    after <= before && is_bad(line)
 }
 
 // The line is not empty, and names nothing.
@@ -87,13 +117,18 @@ fn is_bad(line: &[u8]) -> bool
         && thing_in(line, Kind::Transition).is_none()
 }
 
-// What the line says of a thing of this kind.
-#[tactic(auto, unfolding(crate::specs::Names::thing_in))]
+// What the line says of a thing of this kind. (The searches ask this of line after line; of a line that is too short it is seen without a call.)
+#[inline(always)]
+#[tactic(auto, using(crate::proofs::Lined::nothing_in_short), unfolding(crate::specs::Names::thing_in))]
 fn thing_in(line: &[u8], kind: Kind) -> Option<Thing<'_>>
     ensures value { option_map shown result ≡ thing_in line.now (word_of kind) }
     ensures fits { IfSome result (λ thing. FitsIn thing.name.now line.now) }
 {
-    thing_of(line.strip_prefix(kind.word())?)
+    let word = kind.word();
+    if line.len() < word.len() {
+        return None;
+    }
+    thing_of(line.strip_prefix(word)?)
 }
 
 // What stands behind the word: one digit or two, a blank, and a name.
